@@ -7,7 +7,8 @@ use Rattle.change_file.specs.declared.blocks.Block.{Block}
 use Rattle.change_file.specs.declared.blocks.WholeBlock.{WholeBlock}
 use Rattle.change_file.specs.declared.ends.ChangesEnd.{ChangesEnd}
 
--- a move of a hint from one version to another, which has so many records, by the entries of the records that changed
+-- a move of a hint from one version to another, which has so many records, by the entries of the
+-- records that changed
 pub record HintMove : Type 0 where
   pub since : ℕ
   pub version : ℕ
@@ -99,7 +100,8 @@ move_at bytes = record {
   entries = take (number_in 4 (drop 20 bytes)) (drop 24 bytes);
 }
 
--- the move whose block bytes begin with: a whole one, with the link that follows this one, and since this version
+-- the move whose block bytes begin with: a whole one, with the link that follows this one, and
+-- since this version
 unfoldable pub first_move : List ℕ → ℕ → List ℕ → Option HintMove
 first_move link version bytes =
     if is_prefix (block_bytes link (move_at bytes)) bytes && ((move_at bytes).since == version) then Some (move_at bytes) else None
@@ -115,11 +117,13 @@ first_moves zero link version bytes = []
 first_moves (suc n) link version bytes =
     with_more (first_move link version bytes) (λ m. first_moves n (next_link link m) m.version (drop (block_len m) bytes))
 
--- all moves whose blocks bytes begin with, after a link and a version; there are no more of them than bytes
+-- all moves whose blocks bytes begin with, after a link and a version; there are no more of them
+-- than bytes
 abbrev pub moves_in : List ℕ → ℕ → List ℕ → List HintMove
 moves_in link version bytes = first_moves (length bytes) link version bytes
 
--- the moves of a file of changes, from the version of the hint whose file's head has this digest; none if the file has another head
+-- the moves of a file of changes, from the version of the hint whose file's head has this digest;
+-- none if the file has another head
 abbrev pub file_moves : List ℕ → ℕ → List ℕ → List HintMove
 file_moves digest version bytes = if is_prefix (head_bytes digest) bytes then moves_in (first_link digest) version (drop 72 bytes) else []
 
@@ -135,14 +139,16 @@ pub record IsNext (link : List ℕ) (version : ℕ) (bytes : List ℕ) (next : W
   pub len : next.len ≡ block_len (move_of next.block)
   pub within : next.len ≤ length bytes
 
--- the end of some blocks: how many bytes they have, and the link, the version and the count after them
+-- the end of some blocks: how many bytes they have, and the link, the version and the count after
+-- them
 pub record IsChainEnd (link : List ℕ) (version count : ℕ) (ms : List HintMove) (end : ChangesEnd) : Type 0 where
   pub len : end.len ≡ length (chain_bytes link ms)
   pub link_is : end.link.bytes ≡ last_link link ms
   pub version_is : end.version ≡ last_version version ms
   pub count_is : end.count ≡ last_count count ms
 
--- the end of the whole blocks of a file of changes, if these are its moves: it has the head of this hint's changes, then these blocks, and then what is not read
+-- the end of the whole blocks of a file of changes, if these are its moves: it has the head of this
+-- hint's changes, then these blocks, and then what is not read
 pub record IsEndOf (digest : List ℕ) (version count : ℕ) (bytes : List ℕ) (ms : List HintMove) (end : ChangesEnd) : Type 0 where
   pub len : end.len ≡ length (file_bytes digest ms)
   pub within : end.len ≤ length bytes

@@ -26,7 +26,8 @@ pub record IsReading (link : List ℕ) (version : ℕ) (bytes : List ℕ) (ms : 
   pub last : (m : HintMove) (more : List ℕ) → IsMove m → m.since ≡ last_version version ms →
       rest ≡ block_bytes (last_link link ms) m ++ more → ⊥
 
--- What is read stands there: each block with its numbers, from the version before it, and with the digest of all before as its link.
+-- What is read stands there: each block with its numbers, from the version before it, and with the
+-- digest of all before as its link.
 abbrev pub ReadMovesAreThere : Type 0
 ReadMovesAreThere = (link bytes : List ℕ) (version : ℕ) →
     IsReading link version bytes (moves_in link version bytes) (drop (length (chain_bytes link (moves_in link version bytes))) bytes)
@@ -40,14 +41,16 @@ abbrev pub MovesAreReadOneByOne : Type 0
 MovesAreReadOneByOne = (link bytes : List ℕ) (version : ℕ) → MatchOption (first_move link version bytes) (moves_in link version bytes ≡ [])
     (λ m. moves_in link version bytes ≡ m ∷ moves_in (next_link link m) m.version (drop (block_len m) bytes))
 
--- A block that is written after the whole blocks of a file, over what is there, adds its move; a file with another head is written anew.
+-- A block that is written after the whole blocks of a file, over what is there, adds its move; a
+-- file with another head is written anew.
 abbrev pub AppendAddsAMove : Type 0
 AppendAddsAMove = (digest bytes more : List ℕ) (version : ℕ) (ms : List HintMove) (m : HintMove) → length digest ≡ 32 →
     ms ≡ file_moves digest version bytes → IsMove m → m.since ≡ last_version version ms →
     file_moves digest version (file_bytes digest ms ++ (block_bytes (last_link (first_link digest) ms) m ++ more))
     ≡ ms ++ (m ∷ moves_in (next_link (last_link (first_link digest) ms) m) m.version more)
 
--- a hint is moved by the moves of two lists as by those of the first and then by those of the second, and has as many rows and columns as before
+-- a hint is moved by the moves of two lists as by those of the first and then by those of the
+-- second, and has as many rows and columns as before
 pub record MovesInTurn (l : Shape) (seed : List ℕ) (dimension : ℕ) (hint : WordMatrix) (ms others : List HintMove) : Type 0 where
   pub in_turn : moved_by_all l seed dimension (ms ++ others) hint ≡ moved_by_all l seed dimension others (moved_by_all l seed dimension ms hint)
   pub rows : (moved_by_all l seed dimension ms hint).rows ≡ hint.rows

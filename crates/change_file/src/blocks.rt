@@ -1,8 +1,10 @@
 //! Blocks: the entries of one move of a hint, and a link.
 
-ghost use Rattle.std.specs.Prelude.{◌≡◌, ◌≢◌, ◌<◌, ◌^◌, ◌++◌, List, ℕ, length, None, IfOk, IfSome, IfNone};
+ghost use Rattle.std.specs.Prelude.{◌≡◌, ◌≢◌, ◌<◌, ◌^◌, ◌++◌, List, ℕ, length, None, IfOk, IfSome};
+ghost use Rattle.std.specs.Prelude.{IfNone};
 ghost use Rattle.sha2.specs.Sha256.{sha256};
-ghost use Rattle.change_file.specs.Files.{HintMove, IsMove, IsNext, body_bytes, block_bytes, first_move, move_of, next_link};
+ghost use Rattle.change_file.specs.Files.{HintMove, IsMove, IsNext, body_bytes, block_bytes};
+ghost use Rattle.change_file.specs.Files.{first_move, move_of, next_link};
 
 use byteorder::{ByteOrder, LittleEndian};
 use sha2::{Digest, Sha256};
@@ -85,7 +87,8 @@ pub fn block_bytes(alloc: Global, link: &Link, block: &Block<'_>) -> Result<Bloc
     requires { length block.now.entries.now < 2 ^ 32 }
     ensures bytes { IfOk result (λ it. it.bytes.items ≡
         block_bytes link.now.bytes (move_of block.now)) }
-    ensures link { IfOk result (λ it. it.link.bytes ≡ next_link link.now.bytes (move_of block.now)) }
+    ensures link { IfOk result (λ it. it.link.bytes ≡
+        next_link link.now.bytes (move_of block.now)) }
 {
     let mut bytes = body_bytes(alloc, block)?;
     let next = link_after(link, &bytes);
@@ -128,8 +131,9 @@ fn cut_block(bytes: &[u8]) -> Option<CutBlock<'_>>
     Some(CutBlock { block, body, link })
 }
 
-/// The block at the beginning of some bytes: a whole one, with the link that follows this one, since this version. No memory is taken,
-/// and no length is trusted that the bytes have no room for.
+/// The block at the beginning of some bytes: a whole one, with the link that follows this one,
+/// since this version. No memory is taken, and no length is trusted that the bytes have no room
+/// for.
 pub fn next_block<'a>(bytes: &'a [u8], link: &Link, since: u64) -> Option<WholeBlock<'a>>
     ensures some { IfSome result (λ it. IsNext link.now.bytes since bytes.now it) }
     ensures none { IfNone result (first_move link.now.bytes since bytes.now ≡ None) }

@@ -19,8 +19,8 @@ pub struct ChangesEnd {
     pub count: u32,
 }
 
-/// The end of a file of changes that has no block yet, by the digest of the head of the hint's file, and the version and the number of
-/// records of that hint. It takes no memory.
+/// The end of a file of changes that has no block yet, by the digest of the head of the hint's
+/// file, and the version and the number of records of that hint. It takes no memory.
 pub fn empty_end(hint_digest: &[u8; 32], version: u64, count: u32) -> ChangesEnd
     ensures place { (result.len ≡ 72) × (result.link.bytes ≡ first_link hint_digest.now) }
     ensures moved { (result.version ≡ version) × (result.count ≡ count) }
@@ -60,8 +60,9 @@ fn chain_end(bytes: &[u8], link: Link, version: u64, count: u32) -> ChangesEnd
     }
 }
 
-/// The end of the whole blocks of a file of changes, by the digest of the head of the hint's file, and the version and the number of
-/// records of that hint; none if the file has another head and is to be written anew. No memory is taken.
+/// The end of the whole blocks of a file of changes, by the digest of the head of the hint's file,
+/// and the version and the number of records of that hint; none if the file has another head and is
+/// to be written anew. No memory is taken.
 pub fn end_in(bytes: &[u8], hint_digest: &[u8; 32], version: u64, count: u32) -> Option<ChangesEnd>
     ensures some { IfSome result (λ end. IsEnd hint_digest.now version count bytes.now end) }
     ensures none { IfNone result ((rest : List ℕ) →

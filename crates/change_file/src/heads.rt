@@ -1,6 +1,7 @@
 //! The head of a file of changes, which ties it to the file of a hint.
 
-ghost use Rattle.std.specs.Prelude.{◌≡◌, ◌≢◌, ◌≤◌, ◌++◌, List, ℕ, length, drop, IfSome, IfNone, MatchOption};
+ghost use Rattle.std.specs.Prelude.{◌≡◌, ◌≢◌, ◌≤◌, ◌++◌, List, ℕ, length, drop, IfSome, IfNone};
+ghost use Rattle.std.specs.Prelude.{MatchOption};
 ghost use Rattle.change_file.specs.Files.{change_magic, first_link, head_bytes};
 
 use crate::blocks::{LINK_LEN, Link};
@@ -53,7 +54,8 @@ fn after<'a>(bytes: &'a [u8], first: &[u8]) -> Option<&'a [u8]>
     bytes.strip_prefix(first)
 }
 
-/// The link before the first block of a file of changes, if the bytes begin with the head of the changes of this hint.
+/// The link before the first block of a file of changes, if the bytes begin with the head of the
+/// changes of this hint.
 pub fn read_head(bytes: &[u8], hint_digest: &[u8; 32]) -> Option<Link>
     ensures some { IfSome result (λ link. (link.bytes ≡ first_link hint_digest.now) ×
         (bytes.now ≡ head_bytes hint_digest.now ++ drop 72 bytes.now)) }

@@ -1,7 +1,9 @@
-//! Laws of files of changes, over the definitions alone. A caller that calls one of these functions has its law at hand in its
-//! proof; the call costs nothing.
+//! Laws of files of changes, over the definitions alone. A caller that calls one of these functions
+//! has its law at hand in its proof; the call costs nothing.
 
-ghost use Rattle.change_file.specs.Laws.{AppendAddsAMove, CutFileIsRead, MovesAreMadeInTurn, MovesAreReadOneByOne, OneReading, ReadMovesAreThere, WrittenBlockIsRead, WrittenMovesAreReadFirst};
+ghost use Rattle.change_file.specs.Laws.{AppendAddsAMove, CutFileIsRead, MovesAreMadeInTurn};
+ghost use Rattle.change_file.specs.Laws.{MovesAreReadOneByOne, OneReading, ReadMovesAreThere};
+ghost use Rattle.change_file.specs.Laws.{WrittenBlockIsRead, WrittenMovesAreReadFirst};
 
 /// A block that was written is read, whatever is after it.
 pub fn written_block_is_read()
@@ -18,7 +20,8 @@ pub fn cut_file_is_read()
     ensures { CutFileIsRead }
 {}
 
-/// What is read stands there: each block with the digest of all before as its link. No block is after the last.
+/// What is read stands there: each block with the digest of all before as its link. No block is
+/// after the last.
 pub fn read_moves_are_there()
     ensures { ReadMovesAreThere }
 {}
@@ -38,7 +41,8 @@ pub fn append_adds_a_move()
     ensures { AppendAddsAMove }
 {}
 
-/// A hint is moved by the moves of two lists as by those of the first and then by those of the second.
+/// A hint is moved by the moves of two lists as by those of the first and then by those of the
+/// second.
 pub fn moves_are_made_in_turn()
     ensures { MovesAreMadeInTurn }
 {}

@@ -6,9 +6,9 @@ use Rattle.client_core.specs.Feeding.{Client, FeedsClient}
 use Rattle.client_core.specs.Endings.{Ends, IsNoSync}
 use Rattle.client_core.proofs.EndingLaws.{first_event_ends_the_call}
 use Rattle.client_core.proofs.HintKeeping.{only_syncs_change_the_hint}
-use Rattle.session_engines.specs.declared.conversing.ConverseFault.{ConverseFault}
-use Rattle.session_engines.specs.declared.conversing.ConverseFault.TheVariants.{Ended, Read, Write, BadWelcome, BadReply, Memory, TurnsUsedUp, Failed}
-use Rattle.session_engines.specs.Conversing.{WaitsForReply, Receives, NeverReceives, Converses}
+use Rattle.blocking_io.specs.declared.conversing.ConverseFault.{ConverseFault}
+use Rattle.blocking_io.specs.declared.conversing.ConverseFault.TheVariants.{Ended, Read, Write, BadWelcome, BadReply, Memory, TurnsUsedUp, Failed}
+use Rattle.blocking_io.specs.Conversing.{WaitsForReply, Receives, NeverReceives, Converses}
 
 -- ---- what each feed keeps
 
@@ -52,7 +52,8 @@ never_keeps P still old first (Err BadReply) read out new h = absurd h
 never_keeps P still old first (Err TurnsUsedUp) read out new h = absurd h
 never_keeps P still old first (Err Failed) read out new h = absurd h
 
--- what holds of a client and what it becomes by any feed holds of it and what it becomes by a conversation
+-- what holds of a client and what it becomes by any feed holds of it and what it becomes by a
+-- conversation
 pub conversing_keeps : (P : Client → Client → Type 0) → HoldsOfItself P → HoldsOfFeeds P → (old : Client) (first : List ℕ) (turns : ℕ)
     (result : Result Event ConverseFault) (read out : List ℕ) (left : Option (List ℕ)) (new : Client)
     → Converses old first turns result read out left new → P old new
@@ -61,7 +62,8 @@ conversing_keeps P still fed old first turns result read out left new (inr h) = 
 
 -- ---- the hint, and the end
 
--- a conversation that came to an event leaves the hint as it is where no sync is outstanding, unless the client fails
+-- a conversation that came to an event leaves the hint as it is where no sync is outstanding,
+-- unless the client fails
 pub event_leaves_the_hint : (old : Client) (first : List ℕ) (turns : ℕ) (event : Event) (read out : List ℕ) (left : Option (List ℕ)) (new : Client)
     → Converses old first turns (Ok event) read out left new → IsNoSync old.state.call → new.state.failed ≡ false → new.state.hint ≡ old.state.hint
 event_leaves_the_hint old first turns event read out left new (inl h) calm alive = absurd h

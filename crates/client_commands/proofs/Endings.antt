@@ -4,7 +4,7 @@ use Rattle.std.specs.Prelude.{IfOk}
 use Rattle.client_core.specs.declared.state.ClientState.{ClientState}
 use Rattle.client_core.specs.declared.state.Event.{Event}
 use Rattle.client_core.specs.declared.state.Event.TheVariants as event
-use Rattle.client_core.specs.Calls.{Want, Ask, Edit, Append, Publish, state_after_call}
+use Rattle.client_core.specs.Calls.{ClientCall, Ask, Edit, Append, Publish, state_after_call}
 use Rattle.client_core.specs.Endings.{Ends}
 use Rattle.client_core.specs.Feeding.{Client}
 use Rattle.client_commands.specs.declared.fault.CommandError.{CommandError}
@@ -12,7 +12,7 @@ use Rattle.client_commands.specs.Transcripts.{most_reads, IsDone, Exchanges, Com
 use Rattle.client_commands.proofs.Conversations.{event_ends_the_call}
 
 -- the event of a call ends it
-ends : (want : Want) (old : Client) (event : Event) (read out : List ℕ) (left : Option (List ℕ)) (new : Client)
+ends : (want : ClientCall) (old : Client) (event : Event) (read out : List ℕ) (left : Option (List ℕ)) (new : Client)
     → Exchanges old want (Ok event) read out left new → Ends (state_after_call want old.state).call event
 ends want old event read out left new x =
     subst (λ (c : ClientState). Ends c.call event) x.accepted.state (event_ends_the_call x.called x.first most_reads event read out left new x.answered.1)

@@ -13,7 +13,7 @@ use Rattle.client_core.specs.declared.state.Hint.{Hint}
 use Rattle.client_core.specs.declared.state.CallFault.{CallFault}
 use Rattle.client_core.specs.declared.state.CallFault.TheVariants.{NotReady, Busy, BadIndex, SeedUsedUp, Failed}
 use Rattle.client_core.specs.States.{is_idle, is_ready, known_version, known_count, simple_version, delta_base}
-use Rattle.client_core.specs.Calls.{Want, Hello, Sync, Ask, Edit, Append, Publish, refusal, sync_begun, call_frame, call_words, Accepts}
+use Rattle.client_core.specs.Calls.{ClientCall, Hello, Sync, Ask, Edit, Append, Publish, refusal, sync_begun, call_frame, call_words, Accepts}
 use Rattle.client_core.specs.Resuming.{holding}
 use Rattle.client_commands.specs.Laws.{frame_of_call, WordsOfAHintAreNotSent}
 
@@ -29,7 +29,7 @@ ready_alike : (known : Option ServerInfo) (one other : Hint) → one.version ≡
 ready_alike None one other v = refl
 ready_alike (Some k) one other v = ap (λ (x : ℕ). x == k.version) v
 
-refused_alike : (c : ClientState) (want : Want) (one other : Hint) → one.version ≡ other.version →
+refused_alike : (c : ClientState) (want : ClientCall) (one other : Hint) → one.version ≡ other.version →
     refusal want (holding c one) ≡ refusal want (holding c other)
 refused_alike c (Ask i) one other v = ap (refusal_by c i) (ready_alike c.known one other v)
 refused_alike c (Hello key) one other v = refl
@@ -51,7 +51,7 @@ begun_alike : (base : Option ℕ) (s : Scheme) (c : ClientState) (one other : Hi
 begun_alike None s c one other = refl
 begun_alike (Some since) s c one other = refl
 
-frame_alike : (c : ClientState) (want : Want) (one other : Hint) → one.scheme ≡ other.scheme → one.version ≡ other.version →
+frame_alike : (c : ClientState) (want : ClientCall) (one other : Hint) → one.scheme ≡ other.scheme → one.version ≡ other.version →
     frame_of_call want (holding c one) ≡ frame_of_call want (holding c other)
 frame_alike c (Ask i) one other e v =
     ap (λ (s : Scheme). frame.Query (scheme_byte s) (known_version c.known) (call_words c.known s c.seed c.number i)) e
@@ -63,7 +63,7 @@ frame_alike c (Edit i bytes) one other e v = refl
 frame_alike c (Append bytes) one other e v = refl
 frame_alike c Publish one other e v = refl
 
-bytes_of_call : (want : Want) (old new : ClientState) (bytes : List ℕ) → Accepts old want new bytes → bytes ≡ encoding (frame_of_call want old)
+bytes_of_call : (want : ClientCall) (old new : ClientState) (bytes : List ℕ) → Accepts old want new bytes → bytes ≡ encoding (frame_of_call want old)
 bytes_of_call want old new bytes a = a.written ∙ ap (λ (c : ClientState). encoding (call_frame c c.call)) a.state
 
 pub words_of_a_hint_are_not_sent : WordsOfAHintAreNotSent

@@ -4,7 +4,7 @@ use Rattle.std.specs.Prelude.{◌⊎◌, slice_get, if◌then◌else◌}
 use Rattle.std.specs.List.{AllByRecursion}
 use Rattle.client_core.specs.declared.state.ClientState.{ClientState}
 use Rattle.client_core.specs.Calls.{Hello, Sync, Ask, Edit, Append, Publish}
-use Rattle.client_core.specs.Laws.{Happening, Accepted, TurnedDown, Lacking, Taken, Failing, after, numbers_at}
+use Rattle.client_core.specs.Laws.{Happening, Accepted, TurnedDown, Lacking, Replied, Failing, after, numbers_at}
 use Rattle.client_commands.specs.Runs.{Run, run_of, World, world_of, Step, Begins, Speaks, Happens, TakesUp, Ends, Replaces, run_after, run_holding, run_speaking, run_ended, with_changed, runs_after, world_after, Retrieval, asked_by, asked_at, retrievals, drawn_at, draws, HaveOneSeed, MeetByDraws, OnlyEqualDrawsMeet, without_replacements, FoldersChangeNothing}
 use Rattle.client_commands.proofs.Seeds.{GoesOn, same_client, goes_on}
 
@@ -105,7 +105,8 @@ changed_at [] i change x e = absurd cc
 changed_at (run ∷ runs) zero change x e = ap (λ (z : Run). Some (change z)) (same_element run x e)
 changed_at (run ∷ runs) (suc i) change x e = changed_at runs i change x e
 
--- one retrieval is asked for, with the seed and the number of its run, whose next number is one more then
+-- one retrieval is asked for, with the seed and the number of its run, whose next number is one
+-- more then
 record AsksOne (w : World) (s : Step) : Type 0 where
   asked : Retrieval
   run : Run
@@ -164,7 +165,7 @@ happening_at_most w i (Accepted (Append bytes)) = inl (quiet i (Accepted (Append
 happening_at_most w i (Accepted Publish) = inl (quiet i (Accepted Publish) (λ c. refl) (slice_get w.runs i))
 happening_at_most w i (TurnedDown want) = inl (quiet i (TurnedDown want) (λ c. refl) (slice_get w.runs i))
 happening_at_most w i (Lacking want) = inl (quiet i (Lacking want) (λ c. refl) (slice_get w.runs i))
-happening_at_most w i (Taken reply) = inl (quiet i (Taken reply) (λ c. refl) (slice_get w.runs i))
+happening_at_most w i (Replied reply) = inl (quiet i (Replied reply) (λ c. refl) (slice_get w.runs i))
 happening_at_most w i Failing = inl (quiet i Failing (λ c. refl) (slice_get w.runs i))
 
 at_most : (w : World) (s : Step) → AsksOneAtMost w s

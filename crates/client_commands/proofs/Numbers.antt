@@ -6,7 +6,7 @@ use Rattle.client_core.specs.declared.state.CallFault.{CallFault}
 use Rattle.client_core.specs.declared.state.Event.{Event}
 use Rattle.client_core.specs.declared.state.Event.TheVariants as event
 use Rattle.client_core.specs.States.{delta_base}
-use Rattle.client_core.specs.Calls.{Want, Hello, Sync, Ask, Edit, Append, Publish, refusal, Accepts, Refuses}
+use Rattle.client_core.specs.Calls.{ClientCall, Hello, Sync, Ask, Edit, Append, Publish, refusal, Accepts, Refuses}
 use Rattle.client_core.specs.Feeding.{Client}
 use Rattle.client_core.proofs.NumberLaws.{sync_number}
 use Rattle.client_core.proofs.EndingLaws.{feeding_spends_no_number}
@@ -22,7 +22,7 @@ use Rattle.client_commands.proofs.Seeds.{goes_on, feeding_keeps_seed}
 -- ---- one call
 
 -- a call of this kind asks for no record
-abbrev pub IsNoAsk : Want → Type 0
+abbrev pub IsNoAsk : ClientCall → Type 0
 IsNoAsk (Hello key) = Unit {0}
 IsNoAsk (Sync scheme) = Unit {0}
 IsNoAsk (Ask i) = ⊥
@@ -33,7 +33,7 @@ IsNoAsk Publish = Unit {0}
 number_after : (old new other : ClientState) → new ≡ other → other.number ≡ old.number → new.number ≡ old.number
 number_after old new other e n = ap (λ (c : ClientState). c.number) e ∙ n
 
-accepted_number : (want : Want) (old new : ClientState) (bytes : List ℕ) → IsNoAsk want → Accepts old want new bytes → new.number ≡ old.number
+accepted_number : (want : ClientCall) (old new : ClientState) (bytes : List ℕ) → IsNoAsk want → Accepts old want new bytes → new.number ≡ old.number
 accepted_number (Hello key) old new bytes calm a = number_after old new _ a.state refl
 accepted_number (Sync scheme) old new bytes calm a = number_after old new _ a.state (sync_number (delta_base scheme old.hint) scheme old)
 accepted_number (Ask i) old new bytes calm a = absurd calm
@@ -41,7 +41,7 @@ accepted_number (Edit i b) old new bytes calm a = number_after old new _ a.state
 accepted_number (Append b) old new bytes calm a = number_after old new _ a.state refl
 accepted_number Publish old new bytes calm a = number_after old new _ a.state refl
 
-refused_number : (want : Want) (old new : ClientState) (fault : CallFault) → IsNoAsk want → Refuses old want fault new → new.number ≡ old.number
+refused_number : (want : ClientCall) (old new : ClientState) (fault : CallFault) → IsNoAsk want → Refuses old want fault new → new.number ≡ old.number
 refused_number want old new fault calm (inl r) = number_after old new old r.1 refl
 refused_number (Hello key) old new fault calm (inr r) = number_after old new _ r.2 refl
 refused_number (Sync scheme) old new fault calm (inr r) = number_after old new _ r.2 refl
@@ -50,7 +50,8 @@ refused_number (Edit i b) old new fault calm (inr r) = number_after old new _ r.
 refused_number (Append b) old new fault calm (inr r) = number_after old new _ r.2 refl
 refused_number Publish old new fault calm (inr r) = number_after old new _ r.2 refl
 
--- what holds of a client and what it becomes by any feed holds of it and what it becomes as its call is answered
+-- what holds of a client and what it becomes by any feed holds of it and what it becomes as its
+-- call is answered
 answered_keeps : (P : Client → Client → Type 0) → HoldsOfItself P → HoldsOfFeeds P → (called : Client) (first : List ℕ) (result : Result Event CommandError)
     (read out : List ℕ) (left : Option (List ℕ)) (new : Client)
     → Answers called first result read out left new → P called new
@@ -76,7 +77,7 @@ answered_number : (called : Client) (first : List ℕ) (result : Result Event Co
 answered_number = answered_keeps SameNumber (λ old new e. ap (λ (c : Client). c.state.number) e) feeding_spends_no_number
 
 -- a call was refused, or accepted and answered
-either : (old : Client) (want : Want) (result : Result Event CommandError) (read out : List ℕ) (left : Option (List ℕ)) (new : Client)
+either : (old : Client) (want : ClientCall) (result : Result Event CommandError) (read out : List ℕ) (left : Option (List ℕ)) (new : Client)
     → ComesTo old want result read out left new
     → ((fault : CallFault) × RefusesCall old want fault read out new) ⊎ Exchanges old want result read out left new
 either old want (Ok event) read out left new c = inr c
@@ -87,7 +88,7 @@ either old want (Err (ShortSecrets dimension)) read out left new c = inr c
 either old want (Err (Call fault)) read out left new c = inl (fault, c)
 either old want (Err (Conversation fault)) read out left new c = inr c
 
-pub calm_call : (old : Client) (want : Want) (result : Result Event CommandError) (read out : List ℕ) (left : Option (List ℕ)) (new : Client)
+pub calm_call : (old : Client) (want : ClientCall) (result : Result Event CommandError) (read out : List ℕ) (left : Option (List ℕ)) (new : Client)
     → IsNoAsk want → ComesTo old want result read out left new → new.state.number ≡ old.state.number
 calm_call old want result read out left new calm c = elim (either old want result read out left new c) [
   | inl r ↦ refused_number want old.state new.state r.0 calm r.1.refused
@@ -101,7 +102,7 @@ abbrev SameSeed : Client → Client → Type 0
 SameSeed old new = new.state.failed ≡ false → new.state.seed ≡ old.state.seed
 
 -- a call leaves the seed as it is, unless the client fails
-pub call_keeps_seed : (old : Client) (want : Want) (result : Result Event CommandError) (read out : List ℕ) (left : Option (List ℕ)) (new : Client)
+pub call_keeps_seed : (old : Client) (want : ClientCall) (result : Result Event CommandError) (read out : List ℕ) (left : Option (List ℕ)) (new : Client)
     → ComesTo old want result read out left new → new.state.failed ≡ false → new.state.seed ≡ old.state.seed
 call_keeps_seed old want result read out left new c alive = elim (either old want result read out left new c) [
   | inl r ↦ elim (r.1.refused) [
@@ -185,7 +186,7 @@ asks old i result read out left new (inl h) = last_ask old i result read out lef
 asks old i result read out left new (inr h) = absurd h.10
 
 -- after a call that asks for no record
-calm_then : (want : Want) (step : CommandStep) (later : List CommandStep) (old : Client) (result : Result Event CommandError) (read out : List ℕ)
+calm_then : (want : ClientCall) (step : CommandStep) (later : List CommandStep) (old : Client) (result : Result Event CommandError) (read out : List ℕ)
     (left : Option (List ℕ)) (new : Client)
     → IsNoAsk want
     → ((mid : Client) (read2 out2 : List ℕ) → Transacts mid (step ∷ later) result read2 out2 left new → Spends result mid.state.number new.state.number)

@@ -15,14 +15,14 @@ use Rattle.client_core.specs.declared.state.ClientFault.{ClientFault}
 use Rattle.client_core.specs.declared.state.Event.{Event}
 use Rattle.client_core.specs.States.{delta_base}
 use Rattle.client_core.specs.Feeding.{Client, Course, start, course_after_reply, course_more, runs, takes_all, failing, ends_with, codec_fault, Follows, BreaksOff, FeedsOpen, FeedsFailed, FeedsClient}
-use Rattle.client_core.specs.Calls.{Want, Hello, Sync, Ask, Edit, Append, Publish, sync_begun}
-use Rattle.client_core.specs.Replies.{Taken, plan_given, reaction_to_reply, takes_welcome, more_parts, takes_asked_part, takes_part, answered, takes_answer, reaction_to_stale, takes_stale, moved, takes_delta, changed, takes_changes, goes_by_parts, takes_no_delta, takes_done, takes_refused}
-use Rattle.client_core.specs.Laws.{Happening, Accepted, TurnedDown, Lacking, Taken as Reply, Failing, after}
+use Rattle.client_core.specs.Calls.{ClientCall, Hello, Sync, Ask, Edit, Append, Publish, sync_begun}
+use Rattle.client_core.specs.Replies.{AfterReply, plan_given, reaction_to_reply, takes_welcome, more_parts, takes_asked_part, takes_part, answered, takes_answer, reaction_to_stale, takes_stale, moved, takes_delta, changed, takes_changes, goes_by_parts, takes_no_delta, takes_done, takes_refused}
+use Rattle.client_core.specs.Laws.{Happening, Accepted, TurnedDown, Lacking, Replied as Reply, Failing, after}
 use Rattle.client_core.proofs.NumberLaws.{takes_number, sync_number}
 
 -- ---- a reply
 
-either : (s : List ℕ) (b : Bool) (x y : Taken) → x.state.seed ≡ s → y.state.seed ≡ s → (cond b x y).state.seed ≡ s
+either : (s : List ℕ) (b : Bool) (x y : AfterReply) → x.state.seed ≡ s → y.state.seed ≡ s → (cond b x y).state.seed ≡ s
 either s true x y p q = p
 either s false x y p q = q
 
@@ -127,7 +127,7 @@ pub record GoesOn (c d : ClientState) : Type 0 where
 pub same_client : (c : ClientState) → GoesOn c c
 same_client c = record { seed = refl; number = omega arith }
 
-accepted_goes_on : (c : ClientState) (want : Want) → GoesOn c (after c (Accepted want))
+accepted_goes_on : (c : ClientState) (want : ClientCall) → GoesOn c (after c (Accepted want))
 accepted_goes_on c (Sync scheme) = record {
   seed = sync_seed (delta_base scheme c.hint) scheme c;
   number = omega (arith, sync_number (delta_base scheme c.hint) scheme c);
@@ -138,7 +138,7 @@ accepted_goes_on c (Edit i bytes) = record { seed = refl; number = omega arith }
 accepted_goes_on c (Append bytes) = record { seed = refl; number = omega arith }
 accepted_goes_on c Publish = record { seed = refl; number = omega arith }
 
-lacking_goes_on : (c : ClientState) (want : Want) → GoesOn c (after c (Lacking want))
+lacking_goes_on : (c : ClientState) (want : ClientCall) → GoesOn c (after c (Lacking want))
 lacking_goes_on c (Ask i) = record { seed = refl; number = omega arith }
 lacking_goes_on c (Sync scheme) = same_client c
 lacking_goes_on c (Hello key) = same_client c

@@ -17,7 +17,7 @@ use Rattle.client_core.specs.declared.state.CallFault.{CallFault}
 use Rattle.client_core.specs.declared.state.CallFault.TheVariants.{Failed, Busy, NotReady}
 use Rattle.client_core.specs.States.{is_idle, known_version, delta_base}
 use Rattle.client_core.specs.Endings.{IsNoSync}
-use Rattle.client_core.specs.Calls.{Want, Hello, Sync, Ask, call_frame, sync_begun, state_after_call, change_refusal, Accepts}
+use Rattle.client_core.specs.Calls.{ClientCall, Hello, Sync, Ask, call_frame, sync_begun, state_after_call, change_refusal, Accepts}
 use Rattle.client_core.specs.Feeding.{Client}
 use Rattle.client_commands.specs.Sent.{SendsCommand}
 use Rattle.client_commands.specs.declared.fault.CommandError.TheVariants.{Call}
@@ -25,14 +25,14 @@ use Rattle.client_commands.specs.Transcripts.{most_reads, AnswersCall, Exchanges
 use Rattle.client_commands.proofs.Conversations.{event_leaves_the_hint}
 
 -- the frame of an accepted call
-abbrev pub frame_of : Want → ClientState → Frame
+abbrev pub frame_of : ClientCall → ClientState → Frame
 frame_of want old = call_frame (state_after_call want old) (state_after_call want old).call
 
-accepted_bytes : (want : Want) (old new : ClientState) (bytes : List ℕ) → Accepts old want new bytes → bytes ≡ encoding (frame_of want old)
+accepted_bytes : (want : ClientCall) (old new : ClientState) (bytes : List ℕ) → Accepts old want new bytes → bytes ≡ encoding (frame_of want old)
 accepted_bytes want old new bytes a = a.written ∙ ap (λ (c : ClientState). encoding (call_frame c c.call)) a.state
 
 -- a call that came to an event has sent its frame, and what the client said after it
-exchanged_bytes : (old : Client) (want : Want) (event : Event) (read out : List ℕ) (left : Option (List ℕ)) (new : Client)
+exchanged_bytes : (old : Client) (want : ClientCall) (event : Event) (read out : List ℕ) (left : Option (List ℕ)) (new : Client)
     → Exchanges old want (Ok event) read out left new → (said : List ℕ) × (out ≡ encoding (frame_of want old.state) ++ said)
 exchanged_bytes old want event read out left new x = elim (x.answered.1) [
   | inl h ↦ absurd h
@@ -106,7 +106,8 @@ synced s old mid greeting event read1 out1 read2 out2 rest left1 left2 new bare 
       ap (λ (x : List ℕ). x ++ (out2 ++ rest)) a.1 ∙ ap (λ (x : List ℕ). (first ++ a.0) ++ (x ++ rest)) asks ∙ glue first a.0 second b.0 rest,
     )
 
--- a retrieval that came to an event has sent the greeting, and after it the ask for the first part of the scheme's hint
+-- a retrieval that came to an event has sent the greeting, and after it the ask for the first part
+-- of the scheme's hint
 retrieval_sends : (least : ℕ) (s : Scheme) (index : ℕ) (old : Client) (event : Event) (read out : List ℕ) (left : Option (List ℕ)) (new : Client)
     → old.state.hint ≡ None → Transacts old (retrieval least s index) (Ok event) read out left new → BeginsWith s old.state.profile out
 unfolding Transacts

@@ -8,9 +8,9 @@ use Rattle.std.specs.declared.alloc.Global.{Global}
 use Rattle.client_core.specs.declared.state.CallFault.{CallFault}
 use Rattle.client_core.specs.declared.state.Event.{Event}
 use Rattle.client_core.specs.declared.state.Event.TheVariants as event
-use Rattle.client_core.specs.Calls.{Want, Accepts, Refuses}
+use Rattle.client_core.specs.Calls.{ClientCall, Accepts, Refuses}
 use Rattle.client_core.specs.Feeding.{Client}
-use Rattle.session_engines.specs.Conversing.{Converses}
+use Rattle.blocking_io.specs.Conversing.{Converses}
 use Rattle.client_commands.specs.declared.fault.CommandError.{CommandError}
 use Rattle.client_commands.specs.declared.fault.CommandError.TheVariants.{Refused, Stale, Unreadable, ShortSecrets, Call, Conversation}
 use Rattle.client_commands.specs.Transcripts.{most_reads, failure_of_event, Answers, AnswersCall, Exchanges, RefusesCall, ComesTo, CommandStep, Calls, Judges, secret_len, IsLastOf, Transacts}
@@ -58,12 +58,12 @@ refusal_is_told called sent fault left is =
 
 -- ---- one call
 
-exchanged : (want : Want) (old mid : Client) (v : Vec ℕ Global) (result : Result Event CommandError) (read out : List ℕ) (left : Option (List ℕ)) (new : Client)
+exchanged : (want : ClientCall) (old mid : Client) (v : Vec ℕ Global) (result : Result Event CommandError) (read out : List ℕ) (left : Option (List ℕ)) (new : Client)
     → Accepts old.state want mid.state v.items → mid.reader ≡ old.reader → Answers mid v.items result read out left new
     → Exchanges old want result read out left new
 exchanged want old mid v result read out left new a same h = record { called = mid; first = v.items; accepted = a; reader = same; answered = h }
 
-accepted_comes : (want : Want) (old mid : Client) (v : Vec ℕ Global) (result : Result Event CommandError) (read out : List ℕ)
+accepted_comes : (want : ClientCall) (old mid : Client) (v : Vec ℕ Global) (result : Result Event CommandError) (read out : List ℕ)
     (left : Option (List ℕ)) (new : Client)
     → Accepts old.state want mid.state v.items → mid.reader ≡ old.reader → Answers mid v.items result read out left new
     → ComesTo old want result read out left new
@@ -77,7 +77,7 @@ accepted_comes want old mid v (Err (Call fault)) read out left new a same h = ab
 accepted_comes want old mid v (Err (Conversation fault)) read out left new a same h =
     exchanged want old mid v (Err (Conversation fault)) read out left new a same h
 
-refused_comes : (want : Want) (old mid : Client) (fault : CallFault) (result : Result Event CommandError) (read out : List ℕ)
+refused_comes : (want : ClientCall) (old mid : Client) (fault : CallFault) (result : Result Event CommandError) (read out : List ℕ)
     (left : Option (List ℕ)) (new : Client)
     → Refuses old.state want fault mid.state → mid.reader ≡ old.reader → result ≡ Err (Call fault) → read ≡ [] → out ≡ [] → new ≡ mid
     → ComesTo old want result read out left new
@@ -91,7 +91,7 @@ refused_comes want old mid fault result read out left new r same is unread unwri
     } in
     subst P (sym is) refused
 
-comes : (want : Want) (old mid : Client) (sent : Result (Vec ℕ Global) CallFault) (result : Result Event CommandError) (read out : List ℕ)
+comes : (want : ClientCall) (old mid : Client) (sent : Result (Vec ℕ Global) CallFault) (result : Result Event CommandError) (read out : List ℕ)
     (left : Option (List ℕ)) (new : Client)
     → IfOk sent (λ v. Accepts old.state want mid.state v.items) → IfErr sent (λ e. Refuses old.state want e mid.state) → mid.reader ≡ old.reader
     → AnswersCall mid sent result read out left new → ComesTo old want result read out left new
@@ -99,12 +99,12 @@ comes want old mid (Ok v) result read out left new a r same h = accepted_comes w
 comes want old mid (Err fault) result read out left new a r same h = refused_comes want old mid fault result read out left new r same h.0 h.1 h.2 h.3
 
 -- what came of a call, between two states of the reader and of the writer
-abbrev pub Called : Option (List ℕ) → Option (List ℕ) → Option (List ℕ) → Option (List ℕ) → Client → Want → Result Event CommandError → Client → Type 0
+abbrev pub Called : Option (List ℕ) → Option (List ℕ) → Option (List ℕ) → Option (List ℕ) → Client → ClientCall → Result Event CommandError → Client → Type 0
 Called left left2 held held2 old want result new =
     (read : List ℕ) × (out : List ℕ) × Consumes left left2 read × Appends held held2 out × ComesTo old want result read out left2 new
 
 -- what an exchange says, of the call that it was made for
-pub called : (want : Want) (old mid : Client) (sent : Result (Vec ℕ Global) CallFault) (result : Result Event CommandError)
+pub called : (want : ClientCall) (old mid : Client) (sent : Result (Vec ℕ Global) CallFault) (result : Result Event CommandError)
     (left left2 held held2 : Option (List ℕ)) (new : Client)
     → IfOk sent (λ v. Accepts old.state want mid.state v.items) → IfErr sent (λ e. Refuses old.state want e mid.state) → mid.reader ≡ old.reader
     → ((read : List ℕ) × (out : List ℕ) × Consumes left left2 read × Appends held held2 out × AnswersCall mid sent result read out left2 new)
@@ -125,13 +125,13 @@ Spoken left left2 held held2 old steps result new =
     (read : List ℕ) × (out : List ℕ) × Consumes left left2 read × Appends held held2 out × Transacts old steps result read out left2 new
 
 -- the call ended it
-pub last_call : (want : Want) (later : List CommandStep) (left left2 held held2 : Option (List ℕ)) (old : Client) (result : Result Event CommandError) (new : Client)
+pub last_call : (want : ClientCall) (later : List CommandStep) (left left2 held held2 : Option (List ℕ)) (old : Client) (result : Result Event CommandError) (new : Client)
     → IsLastOf later result → Called left left2 held held2 old want result new → Spoken left left2 held held2 old (Calls want ∷ later) result new
 unfolding Transacts
 last_call want later left left2 held held2 old result new is c = (c.0, c.1, c.2, c.3, inl (is, c.4))
 
 -- the call was done, and others followed
-pub after_call : (want : Want) (later : List CommandStep) (left left2 left3 held held2 held3 : Option (List ℕ)) (old : Client) (event : Event) (mid : Client)
+pub after_call : (want : ClientCall) (later : List CommandStep) (left left2 left3 held held2 held3 : Option (List ℕ)) (old : Client) (event : Event) (mid : Client)
     (result : Result Event CommandError) (new : Client)
     → Called left left2 held held2 old want (Ok event) mid → Spoken left2 left3 held2 held3 mid later result new
     → Spoken left left3 held held3 old (Calls want ∷ later) result new

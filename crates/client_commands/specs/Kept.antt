@@ -13,7 +13,8 @@ use Rattle.client_commands.specs.declared.fault.CommandError.TheVariants.{Call, 
 use Rattle.client_commands.specs.Runs.{number_after_ask}
 use Rattle.client_commands.specs.Transcripts.{ComesTo, IsStill}
 
--- A hint was taken up, a record asked for, and the hint dropped, unless the client refuses that as it refuses a sync.
+-- A hint was taken up, a record asked for, and the hint dropped, unless the client refuses that as
+-- it refuses a sync.
 pub record AsksOver (old : Client) (saved : SavedClient) (index : ℕ) (result : Result Event CommandError) (read out : List ℕ)
     (left : Option (List ℕ)) (new : Client) : Type 0 where
   pub holding : Client
@@ -26,7 +27,8 @@ pub record AsksOver (old : Client) (saved : SavedClient) (index : ℕ) (result :
   pub dropped : IsDropped asked.state answer new.state
   pub kept : new.reader ≡ asked.reader
 
--- What came of it: without a hint that the client may go on with, and when it refuses to take one up, nothing is asked for.
+-- What came of it: without a hint that the client may go on with, and when it refuses to take one
+-- up, nothing is asked for.
 abbrev pub AsksWithRows : Client → SavedClient → ℕ → Result (Option Event) CommandError → List ℕ → List ℕ → Option (List ℕ) → Client → Type 0
 AsksWithRows old saved index (Ok None) read out left new = IsResumed old.state saved (Ok false) new.state × IsStill old read out new
 AsksWithRows old saved index (Ok (Some event)) read out left new = AsksOver old saved index (Ok event) read out left new

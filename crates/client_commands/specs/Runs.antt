@@ -1,5 +1,6 @@
--- Runs of a client, and the seeds and numbers of their retrievals. A run draws its seed from the system's random source as it begins, and counts
--- from 0. It reads neither from its folder, so no crash of a run, no copy and no restoration of the folder brings a seed or a number back.
+-- Runs of a client, and the seeds and numbers of their retrievals. A run draws its seed from the
+-- system's random source as it begins, and counts from 0. It reads neither from its folder, so no
+-- crash of a run, no copy and no restoration of the folder brings a seed or a number back.
 use Rattle.std.specs.Prelude.{◌≡◌, ◌≢◌, ◌+◌, ℕ, zero, suc, List, [], ◌∷◌, ◌++◌, map, Bool, true, false, Option, Some, None, is_some, slice_get, if◌then◌else◌}
 use Rattle.std.specs.List.{AllByRecursion}
 use Rattle.pir_schemes.specs.Plans.{client_profile}
@@ -9,7 +10,8 @@ use Rattle.client_core.specs.States.{fresh}
 use Rattle.client_core.specs.Calls.{Ask, refusal}
 use Rattle.client_core.specs.Laws.{Happening, after, numbers_at}
 
--- the next number of a client after an ask, whatever came of it: one more, unless a check of the client refuses the ask
+-- the next number of a client after an ask, whatever came of it: one more, unless a check of the
+-- client refuses the ask
 abbrev pub number_after_ask : ℕ → ClientState → ℕ
 number_after_ask index c = if is_some (refusal (Ask index) c) then c.number else c.number + 1
 
@@ -24,7 +26,8 @@ pub record Run : Type 0 where
 abbrev pub run_of : List ℕ → Run
 run_of draw = record { client = fresh draw 0; ended = false }
 
--- the bytes of the files in a folder, and the runs over it, in the order in which they began: any number of them at one time
+-- the bytes of the files in a folder, and the runs over it, in the order in which they began: any
+-- number of them at one time
 pub record World : Type 0 where
   pub folder : List (List ℕ)
   pub runs : List Run
@@ -33,9 +36,11 @@ pub record World : Type 0 where
 abbrev pub world_of : List (List ℕ) → World
 world_of folder = record { folder = folder; runs = [] }
 
--- What happens: a run begins with a draw of the random source; its client, named by the run's place, greets wide stores or ordinary ones from then
--- on; something happens to it, as a call or a reply; it takes up a hint, whatever it is, or drops its own; a run ends, by itself or by a crash; other files stand in the folder, as a
--- run keeps a hint there, or as the folder is copied from elsewhere, restored or damaged.
+-- What happens: a run begins with a draw of the random source; its client, named by the run's
+-- place, greets wide stores or ordinary ones from then on; something happens to it, as a call or a
+-- reply; it takes up a hint, whatever it is, or drops its own; a run ends, by itself or by a crash;
+-- other files stand in the folder, as a run keeps a hint there, or as the folder is copied from
+-- elsewhere, restored or damaged.
 pub data Step : Type 0 where
   Begins : (draw : List ℕ) → Step
   Speaks : (run : ℕ) (wide : Bool) → Step
@@ -124,7 +129,8 @@ pub record HaveOneSeed (all : List (List ℕ)) (seed : List ℕ) (one other : Re
   pub first : slice_get all one.run ≡ Some seed
   pub second : slice_get all other.run ≡ Some seed
 
--- each retrieval, beside each later one: they have the same seed and the same number only when the random source gave two runs the same bytes
+-- each retrieval, beside each later one: they have the same seed and the same number only when the
+-- random source gave two runs the same bytes
 unfoldable pub MeetByDraws : List (List ℕ) → List Retrieval → Type 0
 MeetByDraws all [] = Unit {0}
 MeetByDraws all (one ∷ later) =

@@ -7,10 +7,10 @@ use Rattle.client_core.specs.declared.state.ServerInfo.{ServerInfo}
 use Rattle.client_core.specs.declared.state.CallFault.{CallFault}
 use Rattle.client_core.specs.declared.state.Event.{Event}
 use Rattle.client_core.specs.declared.state.Event.TheVariants as event
-use Rattle.client_core.specs.Calls.{Want, Hello, Sync, Ask, Edit, Append, Publish, Accepts, Refuses}
+use Rattle.client_core.specs.Calls.{ClientCall, Hello, Sync, Ask, Edit, Append, Publish, Accepts, Refuses}
 use Rattle.client_core.specs.Feeding.{Client}
 use Rattle.pir_schemes.specs.declared.scheme.Scheme.{Scheme}
-use Rattle.session_engines.specs.Conversing.{Converses}
+use Rattle.blocking_io.specs.Conversing.{Converses}
 use Rattle.client_commands.specs.declared.fault.CommandError.{CommandError}
 use Rattle.client_commands.specs.declared.fault.CommandError.TheVariants.{Refused, Stale, Unreadable, ShortSecrets, Call, Conversation}
 use Rattle.client_commands.specs.declared.commands.Retrieved.{Retrieved}
@@ -19,14 +19,16 @@ use Rattle.client_commands.specs.declared.commands.Retrieved.{Retrieved}
 abbrev pub most_reads : ℕ
 most_reads = 1000000
 
--- the event says nothing against its call: no refusal, no other current version, no record that can't be read
+-- the event says nothing against its call: no refusal, no other current version, no record that
+-- can't be read
 abbrev pub IsDone : Event → Type 0
 IsDone (event.Refused code) = ⊥
 IsDone (event.Stale version) = ⊥
 IsDone (event.Unreadable index version) = ⊥
 IsDone _ = Unit {0}
 
--- What came of a call's bytes: the conversation over them came to an event, which is the answer, or is reported as what it says against the call; or it failed
+-- What came of a call's bytes: the conversation over them came to an event, which is the answer, or
+-- is reported as what it says against the call; or it failed
 abbrev pub Answers : Client → List ℕ → Result Event CommandError → List ℕ → List ℕ → Option (List ℕ) → Client → Type 0
 Answers called first (Ok event) read out left new = IsDone event × Converses called first most_reads (Ok event) read out left new
 Answers called first (Err (Refused code)) read out left new = Converses called first most_reads (Ok (event.Refused code)) read out left new
@@ -44,13 +46,14 @@ failure_of_event (event.Stale version) = Some (Stale version)
 failure_of_event (event.Unreadable index version) = Some (Unreadable index version)
 failure_of_event _ = None
 
--- What came of what a client gave for a call: its bytes are answered, or its refusal is reported, and then nothing is read or written
+-- What came of what a client gave for a call: its bytes are answered, or its refusal is reported,
+-- and then nothing is read or written
 abbrev pub AnswersCall : Client → Result (Vec ℕ Global) CallFault → Result Event CommandError → List ℕ → List ℕ → Option (List ℕ) → Client → Type 0
 AnswersCall called (Ok first) result read out left new = Answers called first.items result read out left new
 AnswersCall called (Err fault) result read out left new = (result ≡ Err (Call fault)) × (read ≡ []) × (out ≡ []) × (new ≡ called)
 
 -- a call that the client accepted, and what came of its bytes
-pub record Exchanges (old : Client) (want : Want) (result : Result Event CommandError) (read out : List ℕ) (left : Option (List ℕ)) (new : Client) :
+pub record Exchanges (old : Client) (want : ClientCall) (result : Result Event CommandError) (read out : List ℕ) (left : Option (List ℕ)) (new : Client) :
     Type 0 where
   pub called : Client
   pub first : List ℕ
@@ -59,20 +62,21 @@ pub record Exchanges (old : Client) (want : Want) (result : Result Event Command
   pub answered : Answers called first result read out left new
 
 -- a call that the client refused: nothing was read or written for it
-pub record RefusesCall (old : Client) (want : Want) (fault : CallFault) (read out : List ℕ) (new : Client) : Type 0 where
+pub record RefusesCall (old : Client) (want : ClientCall) (fault : CallFault) (read out : List ℕ) (new : Client) : Type 0 where
   pub refused : Refuses old.state want fault new.state
   pub reader : new.reader ≡ old.reader
   pub unread : read ≡ []
   pub unwritten : out ≡ []
 
 -- what came of a call
-abbrev pub ComesTo : Client → Want → Result Event CommandError → List ℕ → List ℕ → Option (List ℕ) → Client → Type 0
+abbrev pub ComesTo : Client → ClientCall → Result Event CommandError → List ℕ → List ℕ → Option (List ℕ) → Client → Type 0
 ComesTo old want (Err (Call fault)) read out left new = RefusesCall old want fault read out new
 ComesTo old want result read out left new = Exchanges old want result read out left new
 
--- what a command does in its turn: a call, or a look at the length of the server's secrets, which is to be this one at least
+-- what a command does in its turn: a call, or a look at the length of the server's secrets, which
+-- is to be this one at least
 pub data CommandStep : Type 0 where
-  Calls : (want : Want) → CommandStep
+  Calls : (want : ClientCall) → CommandStep
   Judges : (least : ℕ) → CommandStep
 
 -- how many words a secret has by the Welcome, 0 before it
@@ -101,7 +105,8 @@ abbrev pub IsLastOf : List CommandStep → Result Event CommandError → Type 0
 IsLastOf later (Ok event) = later ≡ []
 IsLastOf later (Err fault) = Unit {0}
 
--- Steps one after another: the last one made ended the command, those before it were done. What was read and written is theirs, in their order.
+-- Steps one after another: the last one made ended the command, those before it were done. What was
+-- read and written is theirs, in their order.
 unfoldable pub Transacts : Client → List CommandStep → Result Event CommandError → List ℕ → List ℕ → Option (List ℕ) → Client → Type 0
 Transacts old [] result read out left new = ⊥
 Transacts old (step ∷ later) result read out left new =

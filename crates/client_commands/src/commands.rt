@@ -1,6 +1,7 @@
 //! The commands.
 
-ghost use Rattle.std.specs.Prelude.{◌≡◌, ◌≤◌, ◌+◌, ◌⊎◌, List, ℕ, length, replicate, IfOk, IfErr, OnOk, None};
+ghost use Rattle.std.specs.Prelude.{◌≡◌, ◌≤◌, ◌+◌, ◌⊎◌, List, ℕ, length, replicate, IfOk, IfErr};
+ghost use Rattle.std.specs.Prelude.{OnOk, None};
 ghost use Rattle.std.specs.Io.KnownBytes.{Appends, Consumes};
 ghost use Rattle.pir_schemes.specs.Schemes.{scheme_byte};
 ghost use Rattle.frame_codec.specs.declared.frame.Frame.TheVariants as frame;
@@ -39,17 +40,18 @@ pub struct Retrieved {
     pub bytes: Bytes,
 }
 
-/// Retrieves record `index` privately: hello as a reader, sync, ask. What is read and written is that of these
-/// calls, in their order, and of no other. A secret has `least` words at least by the server's Welcome, or nothing
-/// is sent after the hello. One number of the client is spent with a record, and one at most with a failure,
-/// whatever the server says. With a record, what was sent begins with a reader's hello, and has the ask for the
-/// first part of the scheme's hint after it.
+/// Retrieves record `index` privately: hello as a reader, sync, ask. What is read and written is
+/// that of these calls, in their order, and of no other. A secret has `least` words at least by the
+/// server's Welcome, or nothing is sent after the hello. One number of the client is spent with a
+/// record, and one at most with a failure, whatever the server says. With a record, what was sent
+/// begins with a reader's hello, and has the ask for the first part of the scheme's hint after it.
 ///
 /// # Errors
 ///
-/// The first failure ends it: `Refused`, `Stale` or `Unreadable` exactly where the event that came of a call's
-/// reply says so, `ShortSecrets` where the Welcome names a smaller dimension than `least`, `Call` where the
-/// client refused a call, and `Conversation` where that over a call came to no event.
+/// The first failure ends it: `Refused`, `Stale` or `Unreadable` exactly where the event that came
+/// of a call's reply says so, `ShortSecrets` where the Welcome names a smaller dimension than
+/// `least`, `Call` where the client refused a call, and `Conversation` where that over a call came
+/// to no event.
 pub fn get<K: Kernel, R: Read, W: Write>(
     alloc: Global,
     client: &mut ClientCore<K>,
@@ -118,9 +120,9 @@ fn retrieve<K: Kernel, R: Read, W: Write>(
     exchange(alloc, client, sent, reader, writer)
 }
 
-/// Gives the server these bytes for record `index` of the next version: the publisher's hello, edit. Answers
-/// the current version, and spends no number. What is read and written is that of these calls, in their order, and
-/// of no other.
+/// Gives the server these bytes for record `index` of the next version: the publisher's hello,
+/// edit. Answers the current version, and spends no number. What is read and written is that of
+/// these calls, in their order, and of no other.
 ///
 /// # Errors
 ///
@@ -173,9 +175,9 @@ fn edit_record<K: Kernel, R: Read, W: Write>(
     exchange(alloc, client, sent, reader, writer)
 }
 
-/// Gives the server these bytes as one record more of the next version: the publisher's hello, append. Answers the
-/// current version, and spends no number. What is read and written is that of these calls, in their order, and of
-/// no other.
+/// Gives the server these bytes as one record more of the next version: the publisher's hello,
+/// append. Answers the current version, and spends no number. What is read and written is that of
+/// these calls, in their order, and of no other.
 ///
 /// # Errors
 ///
@@ -226,8 +228,9 @@ fn append_record<K: Kernel, R: Read, W: Write>(
     exchange(alloc, client, sent, reader, writer)
 }
 
-/// Makes the draft the next version: the publisher's hello, publish. Answers the new version,
-/// and spends no number. What is read and written is that of these calls, in their order, and of no other.
+/// Makes the draft the next version: the publisher's hello, publish. Answers the new version, and
+/// spends no number. What is read and written is that of these calls, in their order, and of no
+/// other.
 ///
 /// # Errors
 ///

@@ -6,17 +6,17 @@ ghost use Rattle.client_commands.specs.declared.fault.CommandError.TheVariants a
 ghost use Rattle.client_commands.specs.Transcripts.{AnswersCall, failure_of_event, secret_len};
 
 use crate::fault::CommandError;
+use blocking_io::converse;
 use client_core::{CallFault, ClientCore, Event};
 use matrix_u32::Kernel;
-use session_engines::converse;
 use std::alloc::Global;
 use std::io::{Read, Write};
 
 /// The most reads that one call makes.
 const TURNS: u64 = 1_000_000;
 
-/// Sends what a call gave, and answers the event that it brought. What the server said against it is a
-/// failure.
+/// Sends what a call gave, and answers the event that it brought. What the server said against it
+/// is a failure.
 pub(crate) fn exchange<K: Kernel, R: Read, W: Write>(
     alloc: Global,
     client: &mut ClientCore<K>,

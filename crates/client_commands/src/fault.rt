@@ -1,7 +1,7 @@
 //! Why a command was not done.
 
+use blocking_io::ConverseFault;
 use client_core::CallFault;
-use session_engines::ConverseFault;
 use thiserror::Error;
 
 /// Why a command was not done.

@@ -1,8 +1,9 @@
 //! The calls of a client that keeps its hint from one run to the next, each on its own.
 
-ghost use Rattle.std.specs.Prelude.{◌≡◌, ◌↔◌, ◌≤◌, ◌+◌, ◌⊎◌, List, ℕ, Ok, Err, None, replicate, IfOk, IfSome, IsTrue, false};
+ghost use Rattle.std.specs.Prelude.{◌≡◌, ◌↔◌, ◌≤◌, ◌+◌, ◌⊎◌, List, ℕ, Ok, Err, None, replicate};
+ghost use Rattle.std.specs.Prelude.{IfOk, IfSome, IsTrue, false};
 ghost use Rattle.std.specs.Io.KnownBytes.{Appends, Consumes};
-ghost use Rattle.client_core.specs.Calls.{Hello, Sync, Want};
+ghost use Rattle.client_core.specs.Calls.{Hello, Sync, ClientCall};
 ghost use Rattle.client_commands.specs.Transcripts.{ComesTo, IsRecordAsked};
 ghost use Rattle.client_commands.specs.Kept.{AsksWithRows, GreetsEither, MakesNoSync};
 ghost use Rattle.client_commands.specs.Runs.{number_after_ask};
@@ -15,13 +16,13 @@ use matrix_u32::Kernel;
 use std::alloc::Global;
 use std::io::{Read, Write};
 
-/// Asks to be let in as a reader. What is read and written is that of this call. It spends no number, and the seed stays as it
-/// is, unless the client fails, which makes no further call then.
+/// Asks to be let in as a reader. What is read and written is that of this call. It spends no
+/// number, and the seed stays as it is, unless the client fails, which makes no further call then.
 ///
 /// # Errors
 ///
-/// `Refused` where the server refused it, `Call` where the client did, `Conversation` where that over the call came to
-/// no event.
+/// `Refused` where the server refused it, `Call` where the client did, `Conversation` where that
+/// over the call came to no event.
 pub fn greet<K: Kernel, R: Read, W: Write>(
     alloc: Global,
     client: &mut ClientCore<K>,
@@ -41,8 +42,9 @@ pub fn greet<K: Kernel, R: Read, W: Write>(
     exchange(alloc, client, sent, reader, writer)
 }
 
-/// Asks to be let in as a reader of an ordinary store, and, if the server refuses that for its profile (3), as one of a wide
-/// store. What is read and written is that of these one or two calls. It spends no number.
+/// Asks to be let in as a reader of an ordinary store, and, if the server refuses that for its
+/// profile (3), as one of a wide store. What is read and written is that of these one or two calls.
+/// It spends no number.
 ///
 /// # Errors
 ///
@@ -75,8 +77,8 @@ fn is_another_profile(greeted: &Result<Event, CommandError>) -> bool
     matches!(greeted, Err(CommandError::Refused(3)))
 }
 
-/// Moves the hint to the server's version: by delta, or by its parts. What is read and written is that of this call. It
-/// spends no number, and the seed stays, as with [`greet`].
+/// Moves the hint to the server's version: by delta, or by its parts. What is read and written is
+/// that of this call. It spends no number, and the seed stays, as with [`greet`].
 ///
 /// # Errors
 ///
@@ -100,14 +102,15 @@ pub fn sync<K: Kernel, R: Read, W: Write>(
     exchange(alloc, client, sent, reader, writer)
 }
 
-/// Asks for record `index` over the hint held, under the client's next number. What is read and written is that of this
-/// call. The number is spent, whatever comes of the call, unless a check of the client refuses it; the seed stays, as with
-/// [`greet`]. So the asks of one client have the numbers 0, 1, .. of its seed, when it was made with the number 0.
+/// Asks for record `index` over the hint held, under the client's next number. What is read and
+/// written is that of this call. The number is spent, whatever comes of the call, unless a check of
+/// the client refuses it; the seed stays, as with [`greet`]. So the asks of one client have the
+/// numbers 0, 1, .. of its seed, when it was made with the number 0.
 ///
 /// # Errors
 ///
-/// `Refused`, `Stale` or `Unreadable` exactly when the server's reply says so, `Call` when the client refused the call,
-/// `Conversation` when that over the call came to no event.
+/// `Refused`, `Stale` or `Unreadable` exactly when the server's reply says so, `Call` when the
+/// client refused the call, `Conversation` when that over the call came to no event.
 pub fn ask<K: Kernel, R: Read, W: Write>(
     alloc: Global,
     client: &mut ClientCore<K>,
@@ -118,7 +121,7 @@ pub fn ask<K: Kernel, R: Read, W: Write>(
     ensures transcript { (read : List ℕ) × (out : List ℕ)
         × Consumes (R.remaining reader.old) (R.remaining reader.new) read
         × Appends (W.contents writer.old) (W.contents writer.new) out
-        × ComesTo client.old (Want.Ask index) result read out (R.remaining reader.new)
+        × ComesTo client.old (ClientCall.Ask index) result read out (R.remaining reader.new)
         client.new }
     ensures number { client.new.state.number ≡ number_after_ask index client.old.state }
     ensures seed { client.new.state.failed ≡ false →
@@ -129,9 +132,10 @@ pub fn ask<K: Kernel, R: Read, W: Write>(
     exchange(alloc, client, sent, reader, writer)
 }
 
-/// Goes on with a hint of which only the rows of record `index` need be right, asks for the record as [`ask`] does, and drops
-/// the hint: no sync is made over it. Answers none, and asks nothing, when it is no hint that the client may go on with. One
-/// number is spent at most, and the seed stays, as with [`greet`].
+/// Goes on with a hint of which only the rows of record `index` need be right, asks for the record
+/// as [`ask`] does, and drops the hint: no sync is made over it. Answers none, and asks nothing,
+/// when it is no hint that the client may go on with. One number is spent at most, and the seed
+/// stays, as with [`greet`].
 ///
 /// # Errors
 ///
@@ -161,7 +165,8 @@ pub fn ask_with_rows<K: Kernel, R: Read, W: Write>(
         Err(fault) => return Err(CommandError::Call(fault)),
     }
     let asked = ask(alloc, client, reader, writer, index);
-    // If this is refused the client has failed, or its call is outstanding, and every sync is refused too.
+    // If this is refused the client has failed, or its call is outstanding, and every sync is
+    // refused too.
     let _ = client.drop_hint();
     match asked {
         Ok(event) => Ok(Some(event)),

@@ -1,10 +1,10 @@
-//! What a client's commands do over a connection: each is let in, makes its calls one after another, and
-//! answers what the last one brought, or why it wasn't done.
+//! What a client's commands do over a connection: each is let in, makes its calls one after
+//! another, and answers what the last one brought, or why it wasn't done.
 //!
-//! A client whose seed is a fresh draw of the system's random source, and which counts its retrievals from 0, needs no number
-//! of an earlier run: `laws::only_equal_draws_meet`.
+//! A client whose seed is a fresh draw of the system's random source, and which counts its
+//! retrievals from 0, needs no number of an earlier run: `laws::only_equal_draws_meet`.
 //!
-//! Its tests are in `session_tests::commands`.
+//! Its tests are in `tests_session::commands`.
 #![tactic(auto)]
 
 mod commands;

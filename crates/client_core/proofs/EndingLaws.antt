@@ -23,22 +23,23 @@ use Rattle.client_core.specs.declared.state.Event.TheVariants.{Welcomed, Synced,
 use Rattle.client_core.specs.declared.state.ClientFault.{ClientFault}
 use Rattle.client_core.specs.declared.state.Reaction.{Reaction}
 use Rattle.client_core.specs.declared.state.Reaction.TheVariants.{Asks, Reports, Fails}
-use Rattle.client_core.specs.Replies.{Taken, reaction_to_reply, is_accepted_welcome, takes_welcome, is_part, more_parts, takes_asked_part, takes_part, event_read, plan_given, is_answer, answered, takes_answer, is_current, reaction_to_stale, takes_stale, row_numbers, is_delta, moved, takes_delta, is_changes, changed, takes_changes, goes_by_parts, takes_no_delta, takes_done, takes_refused}
+use Rattle.client_core.specs.Replies.{AfterReply, reaction_to_reply, is_accepted_welcome, takes_welcome, is_part, more_parts, takes_asked_part, takes_part, event_read, plan_given, is_answer, answered, takes_answer, is_current, reaction_to_stale, takes_stale, row_numbers, is_delta, moved, takes_delta, is_changes, changed, takes_changes, goes_by_parts, takes_no_delta, takes_done, takes_refused}
 use Rattle.client_core.specs.Feeding.{Client, Course, start, course_after_reply, course_more, runs, takes_all, sends_of, events_of, fault_of, failing, ends_with, codec_fault, Follows, BreaksOff, FeedsOpen, FeedsFailed}
 use Rattle.client_core.specs.Endings.{Ends, FirstEventEndsTheCall, FeedingSpendsNoNumber}
 use Rattle.client_core.proofs.NumberLaws.{takes_number}
 
--- ---- what a reply leads to, by the call: its end, a failure, or a call that ends with the same events
+-- ---- what a reply leads to, by the call: its end, a failure, or a call that ends with the same
+-- events
 
 abbrev by_reaction : Call → Call → Reaction → Type 0
 by_reaction call next (Reports e) = Ends call e
 by_reaction call next (Asks s v p) = (e : Event) → Ends next e → Ends call e
 by_reaction call next (Fails f) = Unit {0}
 
-abbrev ReactsTo : Call → Taken → Type 0
+abbrev ReactsTo : Call → AfterReply → Type 0
 ReactsTo call t = by_reaction call t.state.call t.reaction
 
-if_reacts : (call : Call) (b : Bool) (x y : Taken) → (b ≡ true → ReactsTo call x) → ReactsTo call y → ReactsTo call (cond b x y)
+if_reacts : (call : Call) (b : Bool) (x y : AfterReply) → (b ≡ true → ReactsTo call x) → ReactsTo call y → ReactsTo call (cond b x y)
 if_reacts call true x y p q = p refl
 if_reacts call false x y p q = q
 

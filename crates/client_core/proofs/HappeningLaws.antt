@@ -13,10 +13,10 @@ use Rattle.client_core.specs.declared.state.CallFault.{CallFault}
 use Rattle.client_core.specs.declared.state.ClientFault.{ClientFault}
 use Rattle.client_core.specs.declared.state.ClientFault.TheVariants.{BadReply, Memory}
 use Rattle.client_core.specs.declared.state.Event.{Event}
-use Rattle.client_core.specs.Calls.{Want, call_frame, Accepts, Refuses}
+use Rattle.client_core.specs.Calls.{ClientCall, call_frame, Accepts, Refuses}
 use Rattle.client_core.specs.Replies.{reaction_to_reply}
 use Rattle.client_core.specs.Feeding.{Client, Course, start, course_after_reply, course_more, runs, takes_all, sends_of, events_of, fault_of, failing, ends_with, Follows, BreaksOff, FeedsClient, FeedsOpen, FeedsFailed}
-use Rattle.client_core.specs.Laws.{Happening, Accepted, TurnedDown, Lacking, Taken as Reply, Failing, after}
+use Rattle.client_core.specs.Laws.{Happening, Accepted, TurnedDown, Lacking, Replied as Reply, Failing, after}
 use Rattle.client_core.specs.Shapes.{frames_at, frames, after_all, events_at, reported_events, taken_of, failure_at, happenings_of, IsFed, Happened, NothingHappened, ClientsHappen}
 use Rattle.client_core.proofs.Courses.{fault_stays}
 
@@ -175,7 +175,7 @@ failed_stays old new piece out events fault f failed =
 
 -- ---- calls
 
-call_happened : (old new : ClientState) (want : Want) (bytes : List ℕ) → Accepts old want new bytes →
+call_happened : (old new : ClientState) (want : ClientCall) (bytes : List ℕ) → Accepts old want new bytes →
     (bytes ≡ flat_map encoding (frames_at old (Accepted want))) × (new ≡ after old (Accepted want))
 call_happened old new want bytes a = (
   a.written ∙ ap (λ (y : ClientState). encoding (call_frame y y.call)) a.state
@@ -183,7 +183,7 @@ call_happened old new want bytes a = (
   a.state,
 )
 
-refusal_happened : (old new : ClientState) (want : Want) (fault : CallFault) → Refuses old want fault new → (new ≡ after old (TurnedDown want))
+refusal_happened : (old new : ClientState) (want : ClientCall) (fault : CallFault) → Refuses old want fault new → (new ≡ after old (TurnedDown want))
     ⊎ (new ≡ after old (Lacking want))
 refusal_happened old new want fault (inl a) = inl a.1
 refusal_happened old new want fault (inr a) = inr a.2

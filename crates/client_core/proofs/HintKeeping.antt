@@ -12,7 +12,7 @@ use Rattle.client_core.specs.declared.state.Call.{Call}
 use Rattle.client_core.specs.declared.state.Call.TheVariants.{Idle, Hello, Sync, Delta, Changes, Ask, Edit, Append, Publish}
 use Rattle.client_core.specs.declared.state.Event.{Event}
 use Rattle.client_core.specs.declared.state.ClientFault.{ClientFault}
-use Rattle.client_core.specs.Replies.{Taken, reaction_to_reply, plan_given, takes_welcome, takes_part, answered, takes_answer, reaction_to_stale, takes_stale, takes_delta, takes_changes, takes_no_delta, takes_done, takes_refused}
+use Rattle.client_core.specs.Replies.{AfterReply, reaction_to_reply, plan_given, takes_welcome, takes_part, answered, takes_answer, reaction_to_stale, takes_stale, takes_delta, takes_changes, takes_no_delta, takes_done, takes_refused}
 use Rattle.client_core.specs.Feeding.{Client, Course, start, course_after_reply, course_more, runs, takes_all, failing, ends_with, codec_fault, Follows, BreaksOff, FeedsOpen, FeedsFailed}
 use Rattle.client_core.specs.Endings.{IsNoSync, OnlySyncsChangeTheHint}
 
@@ -30,7 +30,7 @@ failed_stays c calm = record { hint = refl; calm = calm }
 ended_stays : (c d : ClientState) → d.hint ≡ c.hint → Stays c (record d { call = Idle })
 ended_stays c d e = record { hint = e; calm = tt }
 
-either : (c : ClientState) (b : Bool) (x y : Taken) → Stays c x.state → Stays c y.state → Stays c (cond b x y).state
+either : (c : ClientState) (b : Bool) (x y : AfterReply) → Stays c x.state → Stays c y.state → Stays c (cond b x y).state
 either c true x y p q = p
 either c false x y p q = q
 

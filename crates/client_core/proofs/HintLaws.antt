@@ -22,7 +22,7 @@ use Rattle.client_core.specs.declared.state.Call.TheVariants.{Idle, Sync}
 use Rattle.client_core.specs.declared.state.Event.{Event}
 use Rattle.client_core.specs.declared.state.Event.TheVariants.{Synced, Stale, Refused}
 use Rattle.client_core.specs.declared.state.Reaction.TheVariants.{Asks, Reports, Fails}
-use Rattle.client_core.specs.Replies.{Taken, plan_given, reaction_to_reply, faulty, ended, is_part, more_parts, hint_made, takes_asked_part, takes_part, takes_welcome, takes_answer, takes_stale, takes_delta, takes_changes, takes_no_delta, takes_done, takes_refused, reaction_to_stale, is_current, with_current, is_delta, row_numbers, with_rows, hint_with_rows, moved}
+use Rattle.client_core.specs.Replies.{AfterReply, plan_given, reaction_to_reply, faulty, ended, is_part, more_parts, hint_made, takes_asked_part, takes_part, takes_welcome, takes_answer, takes_stale, takes_delta, takes_changes, takes_no_delta, takes_done, takes_refused, reaction_to_stale, is_current, with_current, is_delta, row_numbers, with_rows, hint_with_rows, moved}
 use Rattle.client_core.specs.Feeding.{Course, course_after_reply, runs}
 use Rattle.client_core.specs.Laws.{ArePartsFrom, ArePartsOf, IsMadeOfParts, SyncedHintIsMadeOfParts, PartsOfAHintMakeIt, DeltaMakesTheHint, rows_of}
 use Rattle.client_core.proofs.Courses.{fault_stays}
@@ -142,7 +142,7 @@ ends_here : (c : ClientState) (sends : List Frame) (events : List Event) (fs : L
 ends_here c sends events [] a none = refl
 ends_here c sends events (g ∷ gs) a none =
     let t : runs (at c sends events) (g ∷ gs) ≡ runs (course_after_reply (at c sends events) (faulty c BadReply)) gs =
-    ap (λ (x : Taken). runs (course_after_reply (at c sends events) x) gs) (idle_bad c g a) in
+    ap (λ (x : AfterReply). runs (course_after_reply (at c sends events) x) gs) (idle_bad c g a) in
     bad_ends (at c sends events) (record c { failed = true }) gs (g ∷ gs ≡ []) (ap (λ (x : Course). x.fault) (sym t) ∙ none)
 
 -- what a sync leads to that has come to part p
@@ -173,7 +173,7 @@ whole_made : (s : Scheme) (k : ServerInfo) (c : ClientState) (v p version : ℕ)
 whole_made s k c v p version sends f fs words is len t none reported =
     let d : ClientState = record c { hint = Some (hint_made s k v (c.parts ++ words)); parts = []; call = Idle } in
     let r : runs (at c sends []) (f ∷ fs) ≡ runs (at d (sends ++ []) (Synced s v ∷ [])) fs =
-    ap (λ (x : Taken). runs (course_after_reply (at c sends []) x) fs) t in
+    ap (λ (x : AfterReply). runs (course_after_reply (at c sends []) x) fs) t in
     let good : (runs (at d (sends ++ []) (Synced s v ∷ [])) fs).fault ≡ None = ap (λ (x : Course). x.fault) (sym r) ∙ none in
     let said : (runs (at d (sends ++ []) (Synced s v ∷ [])) fs).events ≡ Synced s version ∷ [] = ap (λ (x : Course). x.events) (sym r) ∙ reported in
     let nil : fs ≡ [] = ends_here d (sends ++ []) (Synced s v ∷ []) fs refl good in
@@ -202,7 +202,7 @@ synced_from s k c v p version sends (f ∷ fs) e a none reported =
     go later (Whole words is len t) = whole_made s k c v p version sends f fs words is len t none reported
     go later (More words is t) =
         let r : runs (at c sends []) (f ∷ fs) ≡ runs (at (further s c v p words) (sends ++ (frame.HintAsk (scheme_byte s) v (p + 1) ∷ [])) []) fs =
-        ap (λ (x : Taken). runs (course_after_reply (at c sends []) x) fs) t in
+        ap (λ (x : AfterReply). runs (course_after_reply (at c sends []) x) fs) t in
         let m : Made s k (further s c v p words) v (p + 1) version (sends ++ (frame.HintAsk (scheme_byte s) v (p + 1) ∷ [])) fs =
         later words (ap (λ (x : Course). x.fault) (sym r) ∙ none) (ap (λ (x : Course). x.events) (sym r) ∙ reported) in
         record {
@@ -214,16 +214,16 @@ synced_from s k c v p version sends (f ∷ fs) e a none reported =
         }
     go later (Bad state t) =
         let r : runs (at c sends []) (f ∷ fs) ≡ runs (course_after_reply (at c sends []) (record { state = state; reaction = Fails BadReply })) fs =
-        ap (λ (x : Taken). runs (course_after_reply (at c sends []) x) fs) t in
+        ap (λ (x : AfterReply). runs (course_after_reply (at c sends []) x) fs) t in
         bad_ends (at c sends []) state fs (Made s k c v p version sends (f ∷ fs)) (ap (λ (x : Course). x.fault) (sym r) ∙ none)
     go later (Reported state other idle t) =
         let r : runs (at c sends []) (f ∷ fs) ≡ runs (at state (sends ++ []) (Stale other ∷ [])) fs =
-        ap (λ (x : Taken). runs (course_after_reply (at c sends []) x) fs) t in
+        ap (λ (x : AfterReply). runs (course_after_reply (at c sends []) x) fs) t in
         not_synced s state (sends ++ []) (Stale other) fs version (Made s k c v p version sends (f ∷ fs)) idle (ap (λ (x : Course). x.fault) (sym r) ∙ none)
         (ap (λ (x : Course). x.events) (sym r) ∙ reported) (λ (x : Stale other ≡ Synced s version). absurd (cc))
     go later (Turned state code idle t) =
         let r : runs (at c sends []) (f ∷ fs) ≡ runs (at state (sends ++ []) (Refused code ∷ [])) fs =
-        ap (λ (x : Taken). runs (course_after_reply (at c sends []) x) fs) t in
+        ap (λ (x : AfterReply). runs (course_after_reply (at c sends []) x) fs) t in
         not_synced s state (sends ++ []) (Refused code) fs version (Made s k c v p version sends (f ∷ fs)) idle (ap (λ (x : Course). x.fault) (sym r) ∙ none)
         (ap (λ (x : Course). x.events) (sym r) ∙ reported) (λ (x : Refused code ≡ Synced s version). absurd (cc))
 

@@ -23,7 +23,7 @@ use Rattle.client_core.specs.declared.state.Call.TheVariants.{Idle, Hello, Sync,
 use Rattle.client_core.specs.declared.state.Event.TheVariants.{Welcomed}
 use Rattle.client_core.specs.declared.state.ClientFault.TheVariants.{BadWelcome, BadReply}
 use Rattle.client_core.specs.States.{IsState, IsKnown, shape_known, Keeps, KnownFits, HintFits, CallFits, is_layout}
-use Rattle.client_core.specs.Replies.{Taken, plan_given, reaction_to_reply, faulty, ended, is_accepted_welcome, takes_welcome, is_part, more_parts, takes_asked_part, takes_part, is_answer, answered, takes_answer, is_current, with_current, reaction_to_stale, takes_stale, are_ascending, row_numbers, is_delta, moved, takes_delta, are_entries, have_slots, is_changes, changed, takes_changes, goes_by_parts, takes_no_delta, takes_done, takes_refused}
+use Rattle.client_core.specs.Replies.{AfterReply, plan_given, reaction_to_reply, faulty, ended, is_accepted_welcome, takes_welcome, is_part, more_parts, takes_asked_part, takes_part, is_answer, answered, takes_answer, is_current, with_current, reaction_to_stale, takes_stale, are_ascending, row_numbers, is_delta, moved, takes_delta, are_entries, have_slots, is_changes, changed, takes_changes, goes_by_parts, takes_no_delta, takes_done, takes_refused}
 use Rattle.client_core.proofs.MovedRows.{with_rows-rows, with_rows-cols}
 use Rattle.digit_pack.proofs.Layouts.{layout_means}
 
@@ -36,7 +36,7 @@ ended_keeps c s = record { good = record { number = s.number; known = s.known; h
 emptied_keeps : (c : ClientState) → IsState c → Keeps c (record c { parts = []; call = Idle })
 emptied_keeps c s = record { good = record { number = s.number; known = s.known; hint = s.hint; call = tt; delta = tt }; number = refl }
 
-if_keeps : (c : ClientState) (b : Bool) (x y : Taken) → (b ≡ true → Keeps c x.state) → (b ≡ false → Keeps c y.state) → Keeps c (cond b x y).state
+if_keeps : (c : ClientState) (b : Bool) (x y : AfterReply) → (b ≡ true → Keeps c x.state) → (b ≡ false → Keeps c y.state) → Keeps c (cond b x y).state
 if_keeps c true x y p q = p refl
 if_keeps c false x y p q = q refl
 

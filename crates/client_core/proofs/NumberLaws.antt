@@ -12,13 +12,13 @@ use Rattle.client_core.specs.declared.state.Hint.{Hint}
 use Rattle.client_core.specs.declared.state.Call.{Call}
 use Rattle.client_core.specs.declared.state.Call.TheVariants as call
 use Rattle.client_core.specs.States.{delta_base}
-use Rattle.client_core.specs.Calls.{Want, Hello, Sync, Ask, Edit, Append, Publish, sync_begun}
-use Rattle.client_core.specs.Replies.{Taken, plan_given, reaction_to_reply, takes_welcome, more_parts, takes_asked_part, takes_part, answered, takes_answer, reaction_to_stale, takes_stale, moved, takes_delta, changed, takes_changes, goes_by_parts, takes_no_delta, takes_done, takes_refused}
-use Rattle.client_core.specs.Laws.{Happening, Accepted, TurnedDown, Lacking, Taken as Reply, Failing, after, numbers, NoNumberTwice}
+use Rattle.client_core.specs.Calls.{ClientCall, Hello, Sync, Ask, Edit, Append, Publish, sync_begun}
+use Rattle.client_core.specs.Replies.{AfterReply, plan_given, reaction_to_reply, takes_welcome, more_parts, takes_asked_part, takes_part, answered, takes_answer, reaction_to_stale, takes_stale, moved, takes_delta, changed, takes_changes, goes_by_parts, takes_no_delta, takes_done, takes_refused}
+use Rattle.client_core.specs.Laws.{Happening, Accepted, TurnedDown, Lacking, Replied as Reply, Failing, after, numbers, NoNumberTwice}
 
 -- ---- no reply changes the number
 
-either : (n : ℕ) (b : Bool) (x y : Taken) → x.state.number ≡ n → y.state.number ≡ n → (cond b x y).state.number ≡ n
+either : (n : ℕ) (b : Bool) (x y : AfterReply) → x.state.number ≡ n → y.state.number ≡ n → (cond b x y).state.number ≡ n
 either n true x y p q = p
 either n false x y p q = q
 
@@ -175,7 +175,7 @@ pub sync_number : (base : Option ℕ) (s : Scheme) (c : ClientState) → (sync_b
 sync_number None s c = refl
 sync_number (Some since) s c = refl
 
-calmly : (c : ClientState) (want : Want) → c.number ≤ (after c (Lacking want)).number
+calmly : (c : ClientState) (want : ClientCall) → c.number ≤ (after c (Lacking want)).number
 calmly c (Hello key) = omega arith
 calmly c (Sync scheme) = omega arith
 calmly c (Ask i) = omega arith

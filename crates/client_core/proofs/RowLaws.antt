@@ -19,15 +19,15 @@ use Rattle.client_core.specs.declared.state.CallFault.TheVariants.{NotReady, Bus
 use Rattle.client_core.specs.declared.state.ClientFault.TheVariants.{BadReply}
 use Rattle.client_core.specs.States.{shape_known, is_idle, is_ready, known_version, known_count, scheme_held}
 use Rattle.client_core.specs.Calls.{Ask, state_after_call, call_words}
-use Rattle.client_core.specs.Replies.{Taken, reaction_to_reply, plan_given, faulty, ended, event_of, is_answer, answered, with_current, reaction_to_stale, takes_welcome, takes_part, takes_answer, takes_stale, takes_delta, takes_changes, takes_no_delta, takes_done, takes_refused}
+use Rattle.client_core.specs.Replies.{AfterReply, reaction_to_reply, plan_given, faulty, ended, event_of, is_answer, answered, with_current, reaction_to_stale, takes_welcome, takes_part, takes_answer, takes_stale, takes_delta, takes_changes, takes_no_delta, takes_done, takes_refused}
 use Rattle.client_core.specs.Feeding.{Course, start, course_after_reply, course_more, runs, takes_all}
 use Rattle.client_core.specs.Resuming.{HasRowsOf, holding, course_holding, RowsOfTheRecordSuffice}
 
 -- what a reply leads to, with this hint in place of the client's own
-abbrev taken_holding : Taken → Hint → Taken
+abbrev taken_holding : AfterReply → Hint → AfterReply
 taken_holding t h = record t { state = holding t.state h }
 
-chosen : (b : Bool) (x y : Taken) (h : Hint) → cond b (taken_holding x h) (taken_holding y h) ≡ taken_holding (cond b x y) h
+chosen : (b : Bool) (x y : AfterReply) (h : Hint) → cond b (taken_holding x h) (taken_holding y h) ≡ taken_holding (cond b x y) h
 chosen true x y h = refl
 chosen false x y h = refl
 
@@ -48,7 +48,7 @@ bad_when_idle c (frame.Refused code) e = ap (λ (k : Call). takes_refused k c co
 bad_when_idle c _ e = refl
 
 -- what a reply to an ask leads to
-reply_to_ask : ClientState → ℕ → ℕ → ℕ → Frame → Taken
+reply_to_ask : ClientState → ℕ → ℕ → ℕ → Frame → AfterReply
 reply_to_ask c i v n (frame.Answer scheme version words) = answered c.known c.hint c i v n scheme version words
 reply_to_ask c i v n (frame.Stale version count) = reaction_to_stale c.known c c v version count
 reply_to_ask c i v n (frame.Refused code) = ended c (event.Refused code)
@@ -113,10 +113,10 @@ abbrev IsSettled : Course → Type 0
 IsSettled k = (k.state.call ≡ call.Idle) ⊎ (is_some k.fault ≡ true)
 
 -- what a reply leads to settles the call
-abbrev Settles : Taken → Type 0
+abbrev Settles : AfterReply → Type 0
 Settles t = (k : Course) → IsSettled (course_after_reply k t)
 
-chosen_settles : (b : Bool) (x y : Taken) → Settles x → Settles y → Settles (cond b x y)
+chosen_settles : (b : Bool) (x y : AfterReply) → Settles x → Settles y → Settles (cond b x y)
 chosen_settles true x y p q = p
 chosen_settles false x y p q = q
 
@@ -156,7 +156,7 @@ settled_alike k part f (inl idle) = by (is_some k.fault)
         ≡ course_holding (course_after_reply k (reaction_to_reply k.state f)) part
     same =
         ap (course_after_reply (course_holding k part)) (bad_when_idle (holding k.state part) f idle)
-        ∙ sym (ap (λ (t : Taken). course_holding (course_after_reply k t) part) (bad_when_idle k.state f idle))
+        ∙ sym (ap (λ (t : AfterReply). course_holding (course_after_reply k t) part) (bad_when_idle k.state f idle))
 
     by : (b : Bool) → cond b (course_holding k part) (course_after_reply (course_holding k part) (reaction_to_reply (holding k.state part) f))
         ≡ course_holding (cond b k (course_after_reply k (reaction_to_reply k.state f))) part
@@ -170,7 +170,7 @@ stays_settled k f (inl idle) = by (is_some k.fault)
   where
     by : (b : Bool) → IsSettled (cond b k (course_after_reply k (reaction_to_reply k.state f)))
     by true = inl idle
-    by false = inl (ap (λ (t : Taken). t.state.call) (bad_when_idle k.state f idle) ∙ idle)
+    by false = inl (ap (λ (t : AfterReply). t.state.call) (bad_when_idle k.state f idle) ∙ idle)
 
 settled_runs : (k : Course) (part : Hint) (fs : List Frame) → IsSettled k → runs (course_holding k part) fs ≡ course_holding (runs k fs) part
 settled_runs k part [] s = refl
@@ -184,10 +184,10 @@ ask_runs k h part c i v n s [] r known hint asked = refl
 ask_runs k h part c i v n s (f ∷ fs) r known hint asked =
     let whole : reaction_to_reply c f ≡ reply_to_ask c i v n f = when_asked c i v n s f asked in
     let alike : reaction_to_reply (holding c part) f ≡ taken_holding (reaction_to_reply c f) part =
-    when_asked (holding c part) i v n s f asked ∙ ask_alike k h part c i v n f r known hint ∙ sym (ap (λ (t : Taken). taken_holding t part) whole) in
+    when_asked (holding c part) i v n s f asked ∙ ask_alike k h part c i v n f r known hint ∙ sym (ap (λ (t : AfterReply). taken_holding t part) whole) in
     let settled : IsSettled (course_after_reply (start c) (reaction_to_reply c f)) =
-    (let P : Taken → Type 0 = λ t. IsSettled (course_after_reply (start c) t) in subst P (sym whole) (ask_settles c i v n f (start c))) in
-    ap (λ (t : Taken). runs (course_after_reply (start (holding c part)) t) fs) alike
+    (let P : AfterReply → Type 0 = λ t. IsSettled (course_after_reply (start c) t) in subst P (sym whole) (ask_settles c i v n f (start c))) in
+    ap (λ (t : AfterReply). runs (course_after_reply (start (holding c part)) t) fs) alike
     ∙ settled_runs (course_after_reply (start c) (reaction_to_reply c f)) part fs settled
 
 -- ---- the ask

@@ -23,10 +23,10 @@ use Rattle.client_core.specs.declared.state.Call.TheVariants as call
 use Rattle.client_core.specs.declared.state.CallFault.{CallFault}
 use Rattle.client_core.specs.declared.state.CallFault.TheVariants.{NotReady, Busy, BadIndex, SeedUsedUp, Failed, AlreadyWelcome}
 use Rattle.client_core.specs.States.{shape_known, is_idle, is_ready, known_version, known_count, scheme_held, delta_base, is_wide_client}
-use Rattle.client_core.specs.Calls.{Want, Hello, Sync, Ask, Edit, Append, Publish, call_since, sync_begun, state_after_call, call_frame, call_words, refusal, spent}
-use Rattle.client_core.specs.Replies.{Taken, plan_given, reaction_to_reply, is_accepted_welcome, takes_welcome, is_part, more_parts, takes_asked_part, takes_part, is_answer, answered, takes_answer, is_current, with_current, reaction_to_stale, takes_stale, row_numbers, is_delta, moved, takes_delta, is_changes, changed, takes_changes, goes_by_parts, takes_no_delta, takes_done, takes_refused}
+use Rattle.client_core.specs.Calls.{ClientCall, Hello, Sync, Ask, Edit, Append, Publish, call_since, sync_begun, state_after_call, call_frame, call_words, refusal, spent}
+use Rattle.client_core.specs.Replies.{AfterReply, plan_given, reaction_to_reply, is_accepted_welcome, takes_welcome, is_part, more_parts, takes_asked_part, takes_part, is_answer, answered, takes_answer, is_current, with_current, reaction_to_stale, takes_stale, row_numbers, is_delta, moved, takes_delta, is_changes, changed, takes_changes, goes_by_parts, takes_no_delta, takes_done, takes_refused}
 use Rattle.client_core.specs.Feeding.{sends_of}
-use Rattle.client_core.specs.Laws.{Happening, Accepted, TurnedDown, Lacking, Taken as Reply, Failing, after}
+use Rattle.client_core.specs.Laws.{Happening, Accepted, TurnedDown, Lacking, Replied as Reply, Failing, after}
 use Rattle.client_core.specs.Shapes.{frames_at, frames, FrameShape, shape_of_frame, frame_shape, BlankCall, BlankHello, BlankAsk, blank_call, blank_reply, BlankHappening, blank, Awaited, NoReply, APart, awaited, HintName, hint_name, Outline, outline, asked_count, named_base, kind_since, sync_shape, call_shape, outline_of_sync, outline_after_call, outline_spent, Reacted, after_welcome, after_good_part, after_asked_part, after_part, after_asked_delta, after_delta, after_asked_changes, after_changes, after_asked_no_delta, after_no_delta, after_asked_answer, after_answer, after_asked_stale, after_stale, after_done, after_refused, after_reply, outline_after, shapes_at, shapes, HasWholeKey, KeyIsWhole, IndexIsBelow, EqualShapes}
 
 -- a frame's shape by the size of its fields
@@ -61,7 +61,7 @@ sync_outlined : (base : Option ℕ) (s : Scheme) (c : ClientState) → outline (
 sync_outlined None s c = refl
 sync_outlined (Some since) s c = refl
 
-call_shaped : (c : ClientState) (want : Want) → HasWholeKey want → shape_of_frame (call_frame (state_after_call want c) (state_after_call want c).call)
+call_shaped : (c : ClientState) (want : ClientCall) → HasWholeKey want → shape_of_frame (call_frame (state_after_call want c) (state_after_call want c).call)
     ≡ call_shape (outline c) (blank_call want)
 call_shaped c (Hello key) whole = sized (call_frame (state_after_call (Hello key) c) (call.Hello key)) ∙ ap (λ (x : ℕ). frame_shape 2 (2 + x)) whole
 call_shaped c (Sync scheme) whole = sync_shaped (delta_base scheme c.hint) scheme c ∙ ap (sync_shape (is_wide_client c)) (base_named scheme c.hint)
@@ -72,7 +72,7 @@ call_shaped c (Edit i bytes) whole = sized (frame.Edit i bytes)
 call_shaped c (Append bytes) whole = sized (frame.Append bytes)
 call_shaped c Publish whole = sized frame.Publish
 
-call_outlined : (c : ClientState) (want : Want) → outline (state_after_call want c) ≡ outline_after_call (blank_call want) (outline c)
+call_outlined : (c : ClientState) (want : ClientCall) → outline (state_after_call want c) ≡ outline_after_call (blank_call want) (outline c)
 call_outlined c (Hello key) = refl
 call_outlined c (Sync scheme) =
     sync_outlined (delta_base scheme c.hint) scheme c ∙ ap (λ (x : Option ℕ). outline_of_sync x scheme (outline c)) (base_named scheme c.hint)
@@ -81,7 +81,7 @@ call_outlined c (Edit i bytes) = refl
 call_outlined c (Append bytes) = refl
 call_outlined c Publish = refl
 
-spent_outlined : (c : ClientState) (want : Want) → outline (spent want c) ≡ outline_spent (blank_call want) (outline c)
+spent_outlined : (c : ClientState) (want : ClientCall) → outline (spent want c) ≡ outline_spent (blank_call want) (outline c)
 spent_outlined c (Hello key) = refl
 spent_outlined c (Sync scheme) = refl
 spent_outlined c (Ask i) = refl
@@ -91,10 +91,10 @@ spent_outlined c Publish = refl
 
 -- ---- replies
 
-abbrev reacted : Taken → Reacted
+abbrev reacted : AfterReply → Reacted
 reacted t = record { outline = outline t.state; sends = map shape_of_frame (sends_of t.reaction) }
 
-either : (b : Bool) (x y : Taken) (v w : Reacted) → reacted x ≡ v → reacted y ≡ w → reacted (cond b x y) ≡ cond b v w
+either : (b : Bool) (x y : AfterReply) (v w : Reacted) → reacted x ≡ v → reacted y ≡ w → reacted (cond b x y) ≡ cond b v w
 either true x y v w p q = p
 either false x y v w p q = q
 
@@ -342,7 +342,7 @@ ready_same None hint = refl
 ready_same (Some k) None = refl
 ready_same (Some k) (Some h) = refl
 
-refused_same : (c : ClientState) (want : Want) → IndexIsBelow want c → refusal want c ≡ refused (blank_call want) (outline c)
+refused_same : (c : ClientState) (want : ClientCall) → IndexIsBelow want c → refusal want c ≡ refused (blank_call want) (outline c)
 unfolding refused
 refused_same c (Hello key) below = rw (idle_same c.call) refl
 refused_same c (Sync scheme) below = rw (idle_same c.call) refl
@@ -353,7 +353,8 @@ refused_same c Publish below = rw (idle_same c.call) refl
 
 -- ---- refusals of asks
 
--- why a client refuses an ask: whether it has failed, is ready and idle, whether the index is below the count known, and whether a number is left
+-- why a client refuses an ask: whether it has failed, is ready and idle, whether the index is below
+-- the count known, and whether a number is left
 refused_ask : (failed ready idle below left : Bool) → Option CallFault
 refused_ask failed ready idle below left =
     if failed then Some Failed
@@ -384,7 +385,8 @@ ask_below c i h =
     ∙ as_below c.failed (ready c.known (hint_name c.hint)) (no_reply (awaited c.call)) (nat_lt i (known_count c.known)) (nat_lt c.number (2 ^ 62))
     (λ e. h (ask_outlined c i ∙ e))
 
--- two asks of clients that differ in indices and words alone are refused alike, where the indices are the same or neither is refused for its own
+-- two asks of clients that differ in indices and words alone are refused alike, where the indices
+-- are the same or neither is refused for its own
 pub same_ask : (c d : ClientState) (i j : ℕ) → outline c ≡ outline d → (j ≢ i → refusal (Ask i) c ≢ Some BadIndex) →
     (i ≢ j → refusal (Ask j) d ≢ Some BadIndex) → refusal (Ask i) c ≡ refusal (Ask j) d
 same_ask c d i j alike first second = elim (cases_eq i j) [
@@ -395,7 +397,7 @@ same_ask c d i j alike first second = elim (cases_eq i j) [
   | inr other ↦ ask_below c i (first (λ e. other (sym e))) ∙ ap (outlined_ask true) alike ∙ sym (ask_below d j (second other))
 ]
 
-same_refusal : (c d : ClientState) (want other : Want) → IndexIsBelow want c → IndexIsBelow other d → outline c ≡ outline d →
+same_refusal : (c d : ClientState) (want other : ClientCall) → IndexIsBelow want c → IndexIsBelow other d → outline c ≡ outline d →
     blank_call want ≡ blank_call other → refusal want c ≡ refusal other d
 same_refusal c d want other below below2 alike same =
     refused_same c want below

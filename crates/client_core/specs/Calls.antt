@@ -15,13 +15,13 @@ use Rattle.client_core.specs.declared.state.CallFault.TheVariants.{NotReady, Bus
 use Rattle.client_core.specs.States.{shape_known, is_idle, is_ready, known_version, known_count, scheme_held, delta_base, is_wide_client}
 
 -- a call, with what the caller gives it
-pub data Want : Type 0 where
-  Hello : (key : List ℕ) → Want
-  Sync : (scheme : Scheme) → Want
-  Ask : (index : ℕ) → Want
-  Edit : (index : ℕ) (bytes : List ℕ) → Want
-  Append : (bytes : List ℕ) → Want
-  Publish : Want
+pub data ClientCall : Type 0 where
+  Hello : (key : List ℕ) → ClientCall
+  Sync : (scheme : Scheme) → ClientCall
+  Ask : (index : ℕ) → ClientCall
+  Edit : (index : ℕ) (bytes : List ℕ) → ClientCall
+  Append : (bytes : List ℕ) → ClientCall
+  Publish : ClientCall
 
 -- the checks of hello
 abbrev pub hello_refusal : ClientState → Option CallFault
@@ -32,7 +32,7 @@ abbrev pub change_refusal : ClientState → Option CallFault
 change_refusal c = if c.failed then Some Failed else (if is_some c.known then (if is_idle c.call then None else Some Busy) else Some NotReady)
 
 -- the first check that applies refuses a call
-abbrev pub refusal : Want → ClientState → Option CallFault
+abbrev pub refusal : ClientCall → ClientState → Option CallFault
 refusal (Hello key) c = hello_refusal c
 refusal (Sync scheme) c = change_refusal c
 refusal (Ask i) c =
@@ -45,18 +45,20 @@ refusal (Edit i bytes) c = change_refusal c
 refusal (Append bytes) c = change_refusal c
 refusal Publish c = change_refusal c
 
--- the call that asks for what changed since a version: for records in a wide store, for rows of the hint in an ordinary one
+-- the call that asks for what changed since a version: for records in a wide store, for rows of the
+-- hint in an ordinary one
 abbrev pub call_since : Bool → ℕ → Call
 call_since true since = call.Changes since
 call_since false since = call.Delta since
 
--- a sync begins: by what changed since a version, and the hint is kept meanwhile; or by the parts of the last version known, and it is dropped
+-- a sync begins: by what changed since a version, and the hint is kept meanwhile; or by the parts
+-- of the last version known, and it is dropped
 abbrev pub sync_begun : Option ℕ → Scheme → ClientState → ClientState
 sync_begun (Some since) scheme c = record c { call = call_since (is_wide_client c) since }
 sync_begun None scheme c = record c { call = call.Sync scheme (known_version c.known) 0; hint = None; parts = [] }
 
 -- the state after an accepted call
-abbrev pub state_after_call : Want → ClientState → ClientState
+abbrev pub state_after_call : ClientCall → ClientState → ClientState
 state_after_call (Hello key) c = record c { call = call.Hello key }
 state_after_call (Sync scheme) c = sync_begun (delta_base scheme c.hint) scheme c
 state_after_call (Ask i) c = record c { call = call.Ask i (scheme_held c.hint) (known_version c.known) c.number; number = c.number + 1 }
@@ -64,8 +66,9 @@ state_after_call (Edit i bytes) c = record c { call = call.Edit i bytes }
 state_after_call (Append bytes) c = record c { call = call.Append bytes }
 state_after_call Publish c = record c { call = call.Publish }
 
--- the state after a call that passed its checks and found no memory: only the number of a retrieval is spent
-abbrev pub spent : Want → ClientState → ClientState
+-- the state after a call that passed its checks and found no memory: only the number of a retrieval
+-- is spent
+abbrev pub spent : ClientCall → ClientState → ClientState
 spent (Ask i) c = record c { number = c.number + 1 }
 spent _ c = c
 
@@ -87,13 +90,13 @@ call_frame c (call.Append bytes) = frame.Append bytes
 call_frame c call.Publish = frame.Publish
 
 -- an accepted call: no check refuses it, and the bytes to send are its frame's
-pub record Accepts (old : ClientState) (want : Want) (new : ClientState) (bytes : List ℕ) : Type 0 where
+pub record Accepts (old : ClientState) (want : ClientCall) (new : ClientState) (bytes : List ℕ) : Type 0 where
   pub may : refusal want old ≡ None
   pub state : new ≡ state_after_call want old
   pub written : bytes ≡ encoding (call_frame new new.call)
   pub fits : IsFrame (call_frame new new.call)
 
 -- a refused call: by the first check that applies, and nothing changes; or memory was refused
-abbrev pub Refuses : ClientState → Want → CallFault → ClientState → Type 0
+abbrev pub Refuses : ClientState → ClientCall → CallFault → ClientState → Type 0
 Refuses old want fault new =
     ((refusal want old ≡ Some fault) × (new ≡ old)) ⊎ ((fault ≡ Memory) × (refusal want old ≡ None) × (new ≡ spent want old))

@@ -8,8 +8,8 @@ use Rattle.client_core.specs.declared.state.Event.TheVariants.{Welcomed, Synced,
 use Rattle.client_core.specs.declared.state.ClientFault.{ClientFault}
 use Rattle.client_core.specs.Feeding.{Client, FeedsClient}
 
--- The events that a call can end with: those of its own kind, for what was asked; or a refusal. A sync by delta or by changed records may go on by
--- parts, and then become stale.
+-- The events that a call can end with: those of its own kind, for what was asked; or a refusal. A
+-- sync by delta or by changed records may go on by parts, and then become stale.
 abbrev pub Ends : Call → Event → Type 0
 Ends (Hello key) (Welcomed version) = Unit {0}
 Ends (Hello key) (Refused code) = Unit {0}

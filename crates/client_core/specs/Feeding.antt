@@ -14,10 +14,11 @@ use Rattle.client_core.specs.declared.state.ClientFault.TheVariants.{BadReply, M
 use Rattle.client_core.specs.declared.state.Reaction.{Reaction}
 use Rattle.client_core.specs.declared.state.Reaction.TheVariants.{Asks, Reports, Fails}
 use Rattle.client_core.specs.States.{is_wide_client}
-use Rattle.client_core.specs.Replies.{Taken, reaction_to_reply}
+use Rattle.client_core.specs.Replies.{AfterReply, reaction_to_reply}
 use Rattle.pir_schemes.specs.Schemes.{scheme_byte}
 
--- a client as contracts see it: its state, and the bytes of an unfinished frame, None once the stream has failed
+-- a client as contracts see it: its state, and the bytes of an unfinished frame, None once the
+-- stream has failed
 pub record Client : Type 0 where
   pub state : ClientState
   pub reader : Option (List ℕ)
@@ -49,7 +50,7 @@ abbrev pub start : ClientState → Course
 start c = record { state = c; sends = []; events = []; fault = None }
 
 -- after one more reply
-abbrev pub course_after_reply : Course → Taken → Course
+abbrev pub course_after_reply : Course → AfterReply → Course
 course_after_reply k t =
     record { state = t.state; sends = k.sends ++ sends_of t.reaction; events = k.events ++ events_of t.reaction; fault = fault_of t.reaction }
 
@@ -96,7 +97,8 @@ pub record Follows (k : Course) (out : List ℕ) (events : List Event) (fault : 
   pub fault_is : fault ≡ k.fault
   pub state : new ≡ k.state
 
--- memory was refused at a frame: what was given is that of the frames before it, and no number was spent
+-- memory was refused at a frame: what was given is that of the frames before it, and no number was
+-- spent
 pub record BreaksOff (c : ClientState) (frames : List Frame) (out : List ℕ) (events : List Event) (fault : Option ClientFault)
     (new : ClientState) : Type 0 where
   pub n : ℕ
@@ -121,7 +123,8 @@ pub record FeedsFailed (old : Client) (out : List ℕ) (events : List Event) (fa
   pub none : out ≡ []
   pub silent : events ≡ []
 
--- what a client does with a chunk of the stream: nothing once it has failed, else what its frames bring
+-- what a client does with a chunk of the stream: nothing once it has failed, else what its frames
+-- bring
 abbrev pub FeedsClient : Client → List ℕ → List ℕ → List Event → Option ClientFault → Client → Type 0
 FeedsClient old piece out events fault new =
     MatchBool old.state.failed (FeedsFailed old out events fault new) (FeedsOpen old piece out events fault new)

@@ -21,16 +21,17 @@ use Rattle.client_core.specs.declared.state.ServerInfo.{ServerInfo}
 use Rattle.client_core.specs.declared.state.Hint.{Hint}
 use Rattle.client_core.specs.declared.state.Call.TheVariants.{Sync, Delta, Changes}
 use Rattle.client_core.specs.declared.state.Event.TheVariants.{Synced}
-use Rattle.client_core.specs.Calls.{Want, Ask, state_after_call, spent}
+use Rattle.client_core.specs.Calls.{ClientCall, Ask, state_after_call, spent}
 use Rattle.client_core.specs.Replies.{reaction_to_reply, ended, hint_made, with_current, is_delta, is_changes}
 use Rattle.client_core.specs.Feeding.{takes_all}
 
--- what happens to a client: a call is accepted, a call is refused by a check, a call is refused memory, a reply is taken, the client fails
+-- what happens to a client: a call is accepted, a call is refused by a check, a call is refused
+-- memory, a reply is taken, the client fails
 pub data Happening : Type 0 where
-  Accepted : (want : Want) → Happening
-  TurnedDown : (want : Want) → Happening
-  Lacking : (want : Want) → Happening
-  Taken : (reply : Frame) → Happening
+  Accepted : (want : ClientCall) → Happening
+  TurnedDown : (want : ClientCall) → Happening
+  Lacking : (want : ClientCall) → Happening
+  Replied : (reply : Frame) → Happening
   Failing : Happening
 
 -- the state after it
@@ -38,11 +39,11 @@ abbrev pub after : ClientState → Happening → ClientState
 after c (Accepted want) = state_after_call want c
 after c (TurnedDown want) = c
 after c (Lacking want) = spent want c
-after c (Taken reply) = (reaction_to_reply c reply).state
+after c (Replied reply) = (reaction_to_reply c reply).state
 after c Failing = record c { failed = true }
 
 -- the number of the query that a call sends
-abbrev pub number_of_call : ClientState → Want → List ℕ
+abbrev pub number_of_call : ClientState → ClientCall → List ℕ
 number_of_call c (Ask i) = c.number ∷ []
 number_of_call c _ = []
 
@@ -56,13 +57,15 @@ abbrev pub numbers : ClientState → List Happening → List ℕ
 numbers c [] = []
 numbers c (h ∷ hs) = numbers_at c h ++ numbers (after c h) hs
 
--- the numbers of the queries grow, whatever happens: none is used twice, and none is below the first
+-- the numbers of the queries grow, whatever happens: none is used twice, and none is below the
+-- first
 pub record NoNumberTwice : Type 0 where
   pub grows : (c : ClientState) (hs : List Happening) (i j : ℕ) → i < j → j < length (numbers c hs) →
       slice_index (numbers c hs) i < slice_index (numbers c hs) j
   pub fresh : (c : ClientState) (hs : List Happening) (i : ℕ) → i < length (numbers c hs) → c.number ≤ slice_index (numbers c hs) i
 
--- the replies are parts j, j + 1, .. of a version's hint, and these are their words, one after another
+-- the replies are parts j, j + 1, .. of a version's hint, and these are their words, one after
+-- another
 abbrev pub ArePartsFrom : Scheme → ℕ → ℕ → List Frame → List ℕ → Type 0
 ArePartsFrom s v j [] words = words ≡ []
 ArePartsFrom s v j (f ∷ fs) words =
@@ -105,7 +108,8 @@ PartsOfAHintMakeIt = (c : ClientState) (s : Scheme) (k : ServerInfo) (v version 
 abbrev pub rows_of : WordMatrix → List ℕ → List Row
 rows_of m numbers = map (λ i. record { number = i; words = row m i }) numbers
 
--- Where the rows of a Delta are those of a hint, and each row that it doesn't name is the same in the hint held, the hint held is that hint then.
+-- Where the rows of a Delta are those of a hint, and each row that it doesn't name is the same in
+-- the hint held, the hint held is that hint then.
 abbrev pub DeltaMakesTheHint : Type 0
 DeltaMakesTheHint = (c : ClientState) (k : ServerInfo) (h : Hint) (since now count : ℕ) (hint : WordMatrix) (numbers : List ℕ) →
     c.known ≡ Some k → c.hint ≡ Some h → c.call ≡ Delta since → is_delta k since since now count hint.cols numbers ≡ true →
@@ -114,12 +118,14 @@ DeltaMakesTheHint = (c : ClientState) (k : ServerInfo) (h : Hint) (since now cou
     reaction_to_reply c (frame.Delta since now count (row_list hint.cols (rows_of hint numbers)))
     ≡ ended (record c { known = Some (with_current k now count); hint = Some (record h { version = now; matrix = hint }) }) (Synced Simple now)
 
--- the SimplePIR hint of records with these bytes in the digits, made from scratch for a version of so many records
+-- the SimplePIR hint of records with these bytes in the digits, made from scratch for a version of
+-- so many records
 abbrev pub hint_of_slots : Plan → ℕ → List (List ℕ) → WordMatrix
 hint_of_slots p count slots = product (digit_matrix (shape_at p count) slots) (first_public (shape_at p count) p.dimension p.seed)
 
--- If the entries of Changes are what differs between two lists of records that are as long, and the hint held is the one made from scratch of the
--- records before, the hint held then is the one made from scratch of the records after.
+-- If the entries of Changes are what differs between two lists of records that are as long, and the
+-- hint held is the one made from scratch of the records before, the hint held then is the one made
+-- from scratch of the records after.
 abbrev pub ChangesMakeTheHint : Type 0
 ChangesMakeTheHint = (c : ClientState) (k : ServerInfo) (h : Hint) (since now count : ℕ) (entries : List ℕ) (before after : List (List ℕ)) →
     c.known ≡ Some k → c.hint ≡ Some h → c.call ≡ Changes since → is_changes k since since now count entries ≡ true →

@@ -1,7 +1,7 @@
 pub mod States
 pub mod Calls
 pub mod Replies
-pub mod Rooms
+pub mod Buffers
 pub mod Feeding
 pub mod Laws
 pub mod Preparing

@@ -30,16 +30,16 @@ use Rattle.client_core.specs.declared.state.Reaction.TheVariants.{Asks, Reports,
 use Rattle.client_core.specs.States.{is_layout, shape_known}
 
 -- what a reply leads to: the state after it, and what comes of it
-pub record Taken : Type 0 where
+pub record AfterReply : Type 0 where
   pub state : ClientState
   pub reaction : Reaction
 
 -- a bad reply: the client has failed
-abbrev pub faulty : ClientState → ClientFault → Taken
+abbrev pub faulty : ClientState → ClientFault → AfterReply
 faulty c f = record { state = record c { failed = true }; reaction = Fails f }
 
 -- the end of the call
-abbrev pub ended : ClientState → Event → Taken
+abbrev pub ended : ClientState → Event → AfterReply
 ended c e = record { state = record c { call = Idle }; reaction = Reports e }
 
 -- ---- Welcome
@@ -55,21 +55,21 @@ plan_given profile width record_len groups dimension seed = record {
   seed = seed;
 }
 
--- a Welcome that a client of a profile accepts: a plan that it may have asked for, a form that there is, a layout and a dimension
--- within the limits, a version
+-- a Welcome that a client of a profile accepts: a plan that it may have asked for, a form that
+-- there is, a layout and a dimension within the limits, a version
 abbrev pub is_accepted_welcome : ℕ → Plan → ℕ → ℕ → Bool
 is_accepted_welcome profile p count version =
     accepts_profile p profile && (is_form p.form p.record_len && (is_layout (shape_at p count) && ((nat_le 1 p.dimension && nat_le p.dimension 1024) && nat_lt 0 version)))
 
 -- what it names is known from then on
-abbrev pub welcomed : ClientState → Plan → ℕ → ℕ → Taken
+abbrev pub welcomed : ClientState → Plan → ℕ → ℕ → AfterReply
 welcomed c p count version =
     if is_accepted_welcome c.profile p count version
     then ended (record c { known = Some (record { version = version; count = count; plan = p }) }) (Welcomed version)
     else faulty c BadWelcome
 
 -- a Welcome answers hello alone
-abbrev pub takes_welcome : Call → ClientState → Plan → ℕ → ℕ → Taken
+abbrev pub takes_welcome : Call → ClientState → Plan → ℕ → ℕ → AfterReply
 takes_welcome (Hello key) c p count version = welcomed c p count version
 takes_welcome _ c p count version = faulty c BadReply
 
@@ -89,21 +89,21 @@ hint_made s k version words = record {
 }
 
 -- the last part makes the hint whole, and after another the next part is asked for
-abbrev pub more_parts : Scheme → ServerInfo → ClientState → ℕ → ℕ → List ℕ → Taken
+abbrev pub more_parts : Scheme → ServerInfo → ClientState → ℕ → ℕ → List ℕ → AfterReply
 more_parts s k c version part words =
     if length words == hint_len s (shape_known k) k.plan.dimension
     then ended (record c { hint = Some (hint_made s k version words); parts = [] }) (Synced s version)
     else record { state = record c { call = Sync s version (part + 1); parts = words }; reaction = Asks s version (part + 1) }
 
 -- a part that was asked for counts against the layout known
-abbrev pub takes_asked_part : Option ServerInfo → Scheme → ClientState → ℕ → ℕ → ℕ → ℕ → ℕ → List ℕ → Taken
+abbrev pub takes_asked_part : Option ServerInfo → Scheme → ClientState → ℕ → ℕ → ℕ → ℕ → ℕ → List ℕ → AfterReply
 takes_asked_part None s c asked next scheme version part words = faulty c BadReply
 takes_asked_part (Some k) s c asked next scheme version part words =
     if is_part s (hint_len s (shape_known k) k.plan.dimension) asked next scheme version part words
     then more_parts s k c asked next (c.parts ++ words) else faulty c BadReply
 
 -- a part answers a sync by parts alone
-abbrev pub takes_part : Call → ClientState → ℕ → ℕ → ℕ → List ℕ → Taken
+abbrev pub takes_part : Call → ClientState → ℕ → ℕ → ℕ → List ℕ → AfterReply
 takes_part (Sync s v p) c scheme version part words = takes_asked_part c.known s c v p scheme version part words
 takes_part _ c scheme version part words = faulty c BadReply
 
@@ -124,7 +124,7 @@ is_answer s k asked scheme version words =
     (scheme == scheme_byte s) && ((version == asked) && (length words == answer_count s (shape_known k) k.plan.dimension))
 
 -- an answer is read with the hint held, in the hint's scheme
-abbrev pub answered : Option ServerInfo → Option Hint → ClientState → ℕ → ℕ → ℕ → ℕ → ℕ → List ℕ → Taken
+abbrev pub answered : Option ServerInfo → Option Hint → ClientState → ℕ → ℕ → ℕ → ℕ → ℕ → List ℕ → AfterReply
 answered None hint c i asked number scheme version words = faulty c BadReply
 answered (Some k) None c i asked number scheme version words = faulty c BadReply
 answered (Some k) (Some h) c i asked number scheme version words =
@@ -133,7 +133,7 @@ answered (Some k) (Some h) c i asked number scheme version words =
     else faulty c BadReply
 
 -- an answer replies to ask alone
-abbrev pub takes_answer : Call → ClientState → ℕ → ℕ → List ℕ → Taken
+abbrev pub takes_answer : Call → ClientState → ℕ → ℕ → List ℕ → AfterReply
 takes_answer (Ask i s v n) c scheme version words = answered c.known c.hint c i v n scheme version words
 takes_answer _ c scheme version words = faulty c BadReply
 
@@ -147,8 +147,9 @@ is_current k version count = nat_lt 0 version && is_layout (shape_at k.plan coun
 abbrev pub with_current : ServerInfo → ℕ → ℕ → ServerInfo
 with_current k version count = record k { version = version; count = count }
 
--- the version and the count named are the last known, where these are another version than asked and a count within the limits. The state is the one given first
-abbrev pub reaction_to_stale : Option ServerInfo → ClientState → ClientState → ℕ → ℕ → ℕ → Taken
+-- the version and the count named are the last known, where these are another version than asked
+-- and a count within the limits. The state is the one given first
+abbrev pub reaction_to_stale : Option ServerInfo → ClientState → ClientState → ℕ → ℕ → ℕ → AfterReply
 reaction_to_stale None after c asked version count = faulty c BadReply
 reaction_to_stale (Some k) after c asked version count =
     if not (version == asked) && is_current k version count
@@ -156,7 +157,7 @@ reaction_to_stale (Some k) after c asked version count =
     else faulty c BadReply
 
 -- Stale answers a sync by parts, of which the unfinished ones are dropped, and ask
-abbrev pub takes_stale : Call → ClientState → ℕ → ℕ → Taken
+abbrev pub takes_stale : Call → ClientState → ℕ → ℕ → AfterReply
 takes_stale (Sync s v p) c version count = reaction_to_stale c.known (record c { parts = [] }) c v version count
 takes_stale (Ask i s v n) c version count = reaction_to_stale c.known c c v version count
 takes_stale _ c version count = faulty c BadReply
@@ -172,7 +173,8 @@ are_ascending from limit (i ∷ is) = (nat_le from i && nat_lt i limit) && are_a
 abbrev pub row_numbers : RowList → List ℕ
 row_numbers rows = map (λ r. r.number) (rows_in rows)
 
--- a Delta that was asked for: from the version asked to one that can be, with rows of the hint's length, at most 1024 of them, in order and each once
+-- a Delta that was asked for: from the version asked to one that can be, with rows of the hint's
+-- length, at most 1024 of them, in order and each once
 abbrev pub is_delta : ServerInfo → ℕ → ℕ → ℕ → ℕ → ℕ → List ℕ → Bool
 is_delta k asked since now count dimension numbers =
     (since == asked) && (is_current k now count && ((dimension == k.plan.dimension) && (nat_le (length numbers) 1024
@@ -188,7 +190,7 @@ abbrev pub hint_with_rows : Hint → ℕ → RowList → Hint
 hint_with_rows h version rows = record h { version = version; matrix = with_rows h.matrix (rows_in rows) }
 
 -- its rows replace those of the hint held, whose version and count are the last known then
-abbrev pub moved : Option ServerInfo → Option Hint → ClientState → ℕ → ℕ → ℕ → ℕ → RowList → Taken
+abbrev pub moved : Option ServerInfo → Option Hint → ClientState → ℕ → ℕ → ℕ → ℕ → RowList → AfterReply
 moved None hint c asked since now count rows = faulty c BadReply
 moved (Some k) None c asked since now count rows = faulty c BadReply
 moved (Some k) (Some h) c asked since now count rows =
@@ -197,7 +199,7 @@ moved (Some k) (Some h) c asked since now count rows =
     else faulty c BadReply
 
 -- a Delta answers a sync by delta alone
-abbrev pub takes_delta : Call → ClientState → ℕ → ℕ → ℕ → RowList → Taken
+abbrev pub takes_delta : Call → ClientState → ℕ → ℕ → ℕ → RowList → AfterReply
 takes_delta (Delta asked) c since now count rows = moved c.known c.hint c asked since now count rows
 takes_delta _ c since now count rows = faulty c BadReply
 
@@ -212,7 +214,8 @@ are_entries l entries =
 unfoldable pub have_slots : Plan → List ℕ → Bool
 have_slots p entries = list_all (λ c. is_slot_of p c.old && is_slot_of p c.new) (changes_in p.record_len entries)
 
--- Changes that were asked for: from the version asked to one that can be, of records of that version, ascending, with the bytes of records
+-- Changes that were asked for: from the version asked to one that can be, of records of that
+-- version, ascending, with the bytes of records
 abbrev pub is_changes : ServerInfo → ℕ → ℕ → ℕ → ℕ → List ℕ → Bool
 is_changes k asked since now count entries =
     (since == asked) && (is_current k now count && (are_entries (shape_at k.plan count) entries && have_slots k.plan entries))
@@ -226,7 +229,7 @@ hint_with_entries p h version count entries = record h {
 }
 
 -- its entries move the hint held, whose version and count are the last known then
-abbrev pub changed : Option ServerInfo → Option Hint → ClientState → ℕ → ℕ → ℕ → ℕ → List ℕ → Taken
+abbrev pub changed : Option ServerInfo → Option Hint → ClientState → ℕ → ℕ → ℕ → ℕ → List ℕ → AfterReply
 changed None hint c asked since now count entries = faulty c BadReply
 changed (Some k) None c asked since now count entries = faulty c BadReply
 changed (Some k) (Some h) c asked since now count entries =
@@ -236,14 +239,15 @@ changed (Some k) (Some h) c asked since now count entries =
     else faulty c BadReply
 
 -- Changes answer a sync by changed records alone
-abbrev pub takes_changes : Call → ClientState → ℕ → ℕ → ℕ → List ℕ → Taken
+abbrev pub takes_changes : Call → ClientState → ℕ → ℕ → ℕ → List ℕ → AfterReply
 takes_changes (Changes asked) c since now count entries = changed c.known c.hint c asked since now count entries
 takes_changes _ c since now count entries = faulty c BadReply
 
 -- ---- NoDelta
 
--- the hint held is dropped, and the sync goes on by the parts of the version named, which is the last known
-abbrev pub goes_by_parts : Option ServerInfo → ClientState → ℕ → ℕ → Taken
+-- the hint held is dropped, and the sync goes on by the parts of the version named, which is the
+-- last known
+abbrev pub goes_by_parts : Option ServerInfo → ClientState → ℕ → ℕ → AfterReply
 goes_by_parts None c version count = faulty c BadReply
 goes_by_parts (Some k) c version count =
     if is_current k version count
@@ -254,7 +258,7 @@ goes_by_parts (Some k) c version count =
     else faulty c BadReply
 
 -- NoDelta answers a sync by delta or by changed records alone
-abbrev pub takes_no_delta : Call → ClientState → ℕ → ℕ → Taken
+abbrev pub takes_no_delta : Call → ClientState → ℕ → ℕ → AfterReply
 takes_no_delta (Delta asked) c version count = goes_by_parts c.known c version count
 takes_no_delta (Changes asked) c version count = goes_by_parts c.known c version count
 takes_no_delta _ c version count = faulty c BadReply
@@ -262,14 +266,14 @@ takes_no_delta _ c version count = faulty c BadReply
 -- ---- Done and Refused
 
 -- Done answers edit, append and publish, whatever version it names
-abbrev pub takes_done : Call → ClientState → ℕ → Taken
+abbrev pub takes_done : Call → ClientState → ℕ → AfterReply
 takes_done (Edit i b) c version = ended c (Done version)
 takes_done (Append b) c version = ended c (Done version)
 takes_done Publish c version = ended c (Done version)
 takes_done _ c version = faulty c BadReply
 
 -- Refused answers every call, with any code; in a sync by parts the unfinished ones are dropped
-abbrev pub takes_refused : Call → ClientState → ℕ → Taken
+abbrev pub takes_refused : Call → ClientState → ℕ → AfterReply
 takes_refused Idle c code = faulty c BadReply
 takes_refused (Sync s v p) c code = ended (record c { parts = [] }) (Refused code)
 takes_refused _ c code = ended c (Refused code)
@@ -277,7 +281,7 @@ takes_refused _ c code = ended c (Refused code)
 -- ---- any frame
 
 -- what a frame leads to; the kinds that no reply has, and those that answer no call yet, are bad
-abbrev pub reaction_to_reply : ClientState → Frame → Taken
+abbrev pub reaction_to_reply : ClientState → Frame → AfterReply
 reaction_to_reply c (frame.Welcome profile width record_len groups count version dimension seed) =
     takes_welcome c.call c (plan_given profile width record_len groups dimension seed) count version
 reaction_to_reply c (frame.HintPart scheme version part words) = takes_part c.call c scheme version part words

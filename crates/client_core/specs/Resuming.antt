@@ -20,15 +20,16 @@ use Rattle.client_core.specs.Feeding.{Course, takes_all}
 abbrev pub saved_of : ClientState → SavedClient
 saved_of c = record { number = c.number; known = c.known; hint = c.hint }
 
--- What was known of a server can have become what is known now: the plan is equal, the version no earlier, and the records are
--- no fewer, as many where the version is the same.
+-- What was known of a server can have become what is known now: the plan is equal, the version no
+-- earlier, and the records are no fewer, as many where the version is the same.
 pub record HasBecome (then now : ServerInfo) : Type 0 where
   pub plan : then.plan ≡ now.plan
   pub version : then.version ≤ now.version
   pub count : then.count ≤ now.count
   pub same : then.version ≡ now.version → then.count ≡ now.count
 
--- a hint of no later version than the last one known, with the rows and columns that its scheme wants
+-- a hint of no later version than the last one known, with the rows and columns that its scheme
+-- wants
 pub record IsHintFor (now : ServerInfo) (h : Hint) : Type 0 where
   pub version : h.version ≤ now.version
   pub rows : h.matrix.rows ≡ hint_rows h.scheme (shape_known now) now.plan.dimension
@@ -54,7 +55,8 @@ pub record Drops (old : ClientState) (saved : SavedClient) (new : ClientState) :
   pub may_not : ¬ MayHold now saved.known saved.hint
   pub state : new ≡ old
 
--- what came of a client's resumption: it holds the hint saved, or that was dropped; refused as a sync is, it is as it was
+-- what came of a client's resumption: it holds the hint saved, or that was dropped; refused as a
+-- sync is, it is as it was
 abbrev pub IsResumed : ClientState → SavedClient → Result Bool CallFault → ClientState → Type 0
 IsResumed old saved (Ok true) new = (change_refusal old ≡ None) × GoesOn old saved new
 IsResumed old saved (Ok false) new = (change_refusal old ≡ None) × Drops old saved new
@@ -64,8 +66,9 @@ IsResumed old saved (Err fault) new = (change_refusal old ≡ Some fault) × (ne
 abbrev pub let_in : ℕ → List ℕ → ℕ → List ℕ → ServerInfo → ClientState
 let_in profile seed number key now = (takes_welcome (call.Hello key) (state_after_call (Hello key) (fresh_in profile seed number)) now.plan now.count now.version).state
 
--- A new client of the same seed and number, let in by what the server has become, goes on as the client that was saved, with all
--- that this one knew and held but for what the server reports now; and asks at once where the hint is of this version.
+-- A new client of the same seed and number, let in by what the server has become, goes on as the
+-- client that was saved, with all that this one knew and held but for what the server reports now;
+-- and asks at once where the hint is of this version.
 pub record IsTheSaved (c : ClientState) (now : ServerInfo) (hint : Hint) (result : Result Bool CallFault) (new : ClientState) : Type 0 where
   pub taken_up : result ≡ Ok true
   pub state : new ≡ record c { known = Some now; parts = []; call = call.Idle; failed = false }
@@ -92,7 +95,8 @@ IsDropped old (Err fault) new = (change_refusal old ≡ Some fault) × (new ≡ 
 
 -- ---- a client that holds the rows of one record alone
 
--- the hint is of SimplePIR, and so is another, of one version and width with it, that has its rows of record i
+-- the hint is of SimplePIR, and so is another, of one version and width with it, that has its rows
+-- of record i
 pub record HasRowsOf (k : ServerInfo) (h : Hint) (i : ℕ) (part : Hint) : Type 0 where
   pub simple : h.scheme ≡ Simple
   pub scheme : part.scheme ≡ Simple
@@ -109,8 +113,9 @@ holding c h = record c { hint = Some h }
 abbrev pub course_holding : Course → Hint → Course
 course_holding k h = record k { state = holding k.state h }
 
--- With the one hint as with the other a client that asks for record i is refused alike and sends the same frame; and whatever replies come then lead to the
--- same events, frames, fault and state but for the hint.
+-- With the one hint as with the other a client that asks for record i is refused alike and sends
+-- the same frame; and whatever replies come then lead to the same events, frames, fault and state
+-- but for the hint.
 pub record AsksAlike (c : ClientState) (i : ℕ) (part : Hint) : Type 0 where
   pub refusal : refusal (Ask i) (holding c part) ≡ refusal (Ask i) c
   pub frame : call_frame (state_after_call (Ask i) (holding c part)) (state_after_call (Ask i) (holding c part)).call

@@ -1,4 +1,5 @@
--- The kinds and lengths of the frames that a client sends, as a function of what holds no index and no word.
+-- The kinds and lengths of the frames that a client sends, as a function of what holds no index and
+-- no word.
 use Rattle.std.specs.Prelude.{◌≡◌, ◌≢◌, ◌⊎◌, ◌<◌, ◌+◌, ◌*◌, ℕ, List, [], ◌∷◌, ◌++◌, length, map, Bool, true, false, not, ◌&&◌, Option, Some, None, is_some, Result, Ok, Err, ◌==◌, if◌then◌else◌}
 use Rattle.std.specs.List.{flat_map, AllByRecursion}
 use Rattle.digit_pack.specs.Layout.{is_wide}
@@ -23,10 +24,10 @@ use Rattle.client_core.specs.declared.state.CallFault.{CallFault}
 use Rattle.client_core.specs.declared.state.ClientFault.{ClientFault}
 use Rattle.client_core.specs.declared.state.ClientFault.TheVariants.{Memory}
 use Rattle.client_core.specs.declared.state.Event.{Event}
-use Rattle.client_core.specs.Calls.{Want, Hello, Sync, Ask, Edit, Append, Publish, call_since, state_after_call, call_frame, refusal, Accepts, Refuses}
+use Rattle.client_core.specs.Calls.{ClientCall, Hello, Sync, Ask, Edit, Append, Publish, call_since, state_after_call, call_frame, refusal, Accepts, Refuses}
 use Rattle.client_core.specs.Replies.{reaction_to_reply, plan_given, is_accepted_welcome, is_current, with_current, row_numbers, is_delta, is_changes}
 use Rattle.client_core.specs.Feeding.{Client, sends_of, events_of, fault_of, takes_all, FeedsClient}
-use Rattle.client_core.specs.Laws.{Happening, Accepted, TurnedDown, Lacking, Taken, Failing, after}
+use Rattle.client_core.specs.Laws.{Happening, Accepted, TurnedDown, Lacking, Replied, Failing, after}
 
 -- ---- the frames that a client sends, and their shapes
 
@@ -35,7 +36,7 @@ abbrev pub frames_at : ClientState → Happening → List Frame
 frames_at c (Accepted want) = call_frame (state_after_call want c) (state_after_call want c).call ∷ []
 frames_at c (TurnedDown want) = []
 frames_at c (Lacking want) = []
-frames_at c (Taken reply) = sends_of (reaction_to_reply c reply).reaction
+frames_at c (Replied reply) = sends_of (reaction_to_reply c reply).reaction
 frames_at c Failing = []
 
 -- the frames that a client sends, in order
@@ -68,7 +69,7 @@ pub data BlankCall : Type 0 where
   BlankPublish : BlankCall
 
 -- a call without its index
-abbrev pub blank_call : Want → BlankCall
+abbrev pub blank_call : ClientCall → BlankCall
 blank_call (Hello key) = BlankHello
 blank_call (Sync scheme) = BlankSync scheme
 blank_call (Ask i) = BlankAsk
@@ -76,7 +77,8 @@ blank_call (Edit i bytes) = BlankEdit (length bytes)
 blank_call (Append bytes) = BlankAppend (length bytes)
 blank_call Publish = BlankPublish
 
--- a reply: its kind, its versions and its counts; the numbers of a Delta's rows; and a Welcome and Changes whole
+-- a reply: its kind, its versions and its counts; the numbers of a Delta's rows; and a Welcome and
+-- Changes whole
 pub data BlankReply : Type 0 where
   BlankWelcome : (plan : Plan) (count version : ℕ) → BlankReply
   BlankPart : (scheme version part count : ℕ) → BlankReply
@@ -116,10 +118,11 @@ abbrev pub blank : Happening → BlankHappening
 blank (Accepted want) = BlankAccepted (blank_call want)
 blank (TurnedDown want) = BlankTurnedDown (blank_call want)
 blank (Lacking want) = BlankLacking (blank_call want)
-blank (Taken reply) = BlankTaken (blank_reply reply)
+blank (Replied reply) = BlankTaken (blank_reply reply)
 blank Failing = BlankFailing
 
--- what the client waits for: nothing; a Welcome; a part of a version's hint; a Delta or Changes from a version; an answer of a version; a Done
+-- what the client waits for: nothing; a Welcome; a part of a version's hint; a Delta or Changes
+-- from a version; an answer of a version; a Done
 pub data Awaited : Type 0 where
   NoReply : Awaited
   AWelcome : Awaited
@@ -151,7 +154,8 @@ abbrev pub hint_name : Option Hint → Option HintName
 hint_name None = None
 hint_name (Some h) = Some (record { scheme = h.scheme; version = h.version })
 
--- all of a client but for its seed and what its indices and words are: `words` of an unfinished hint have come
+-- all of a client but for its seed and what its indices and words are: `words` of an unfinished
+-- hint have come
 pub record Outline : Type 0 where
   pub profile : ℕ
   pub number : ℕ
@@ -178,12 +182,14 @@ abbrev pub named_base : Scheme → Option HintName → Option ℕ
 named_base Simple (Some h) = simple_version h.scheme h.version
 named_base _ hint = None
 
--- the kind of the frame that asks for what changed: for records in a wide store, for rows of the hint in an ordinary one
+-- the kind of the frame that asks for what changed: for records in a wide store, for rows of the
+-- hint in an ordinary one
 abbrev pub kind_since : Bool → ℕ
 kind_since true = 10
 kind_since false = 4
 
--- the shape of the first frame of a sync, in a wide store or an ordinary one: by what changed, or by parts
+-- the shape of the first frame of a sync, in a wide store or an ordinary one: by what changed, or
+-- by parts
 abbrev pub sync_shape : Bool → Option ℕ → FrameShape
 sync_shape wide (Some since) = frame_shape (kind_since wide) 8
 sync_shape wide None = frame_shape 3 13
@@ -313,7 +319,8 @@ abbrev pub after_answer : Awaited → Outline → ℕ → ℕ → ℕ → Reacte
 after_answer (AnAnswer v) x scheme version count = after_asked_answer x.known x.hint x v scheme version count
 after_answer _ x scheme version count = fails x
 
--- the version and the count are the last known, where these are another version than asked and a count within the limits
+-- the version and the count are the last known, where these are another version than asked and a
+-- count within the limits
 abbrev pub after_asked_stale : Option ServerInfo → Outline → Outline → ℕ → ℕ → ℕ → Reacted
 after_asked_stale None dropped x asked version count = fails x
 after_asked_stale (Some k) dropped x asked version count =
@@ -376,7 +383,7 @@ shapes x (h ∷ hs) = shapes_at x h ++ shapes (outline_after x h) hs
 -- ---- the laws
 
 -- a key has 32 bytes
-abbrev pub HasWholeKey : Want → Type 0
+abbrev pub HasWholeKey : ClientCall → Type 0
 HasWholeKey (Hello key) = length key ≡ 32
 HasWholeKey _ = Unit {0}
 
@@ -386,20 +393,20 @@ KeyIsWhole (Accepted want) = HasWholeKey want
 KeyIsWhole _ = Unit {0}
 
 -- an ask is of a record below the count known
-abbrev pub IndexIsBelow : Want → ClientState → Type 0
+abbrev pub IndexIsBelow : ClientCall → ClientState → Type 0
 IndexIsBelow (Ask i) c = i < known_count c.known
 IndexIsBelow _ c = Unit {0}
 
--- Whatever happens to a client, its frames have the shapes that the happenings without their indices give. So no
--- index changes how many frames there are, their order, their kinds or their lengths, nor whether and why a call
--- of a record below the count known is refused.
+-- Whatever happens to a client, its frames have the shapes that the happenings without their
+-- indices give. So no index changes how many frames there are, their order, their kinds or their
+-- lengths, nor whether and why a call of a record below the count known is refused.
 pub record EqualShapes : Type 0 where
   pub shapes_are : (c : ClientState) (hs : List Happening) → AllByRecursion KeyIsWhole hs →
       map shape_of_frame (frames c hs) ≡ shapes (outline c) (map blank hs)
   pub outline_is : (c : ClientState) (h : Happening) → outline (after c h) ≡ outline_after (outline c) (blank h)
   pub same_shapes : (c d : ClientState) (hs gs : List Happening) → AllByRecursion KeyIsWhole hs → AllByRecursion KeyIsWhole gs →
       outline c ≡ outline d → map blank hs ≡ map blank gs → map shape_of_frame (frames c hs) ≡ map shape_of_frame (frames d gs)
-  pub same_refusal : (c d : ClientState) (want other : Want) → IndexIsBelow want c → IndexIsBelow other d →
+  pub same_refusal : (c d : ClientState) (want other : ClientCall) → IndexIsBelow want c → IndexIsBelow other d →
       outline c ≡ outline d → blank_call want ≡ blank_call other → refusal want c ≡ refusal other d
 
 -- ---- what a client does is happenings
@@ -411,7 +418,7 @@ after_all c (h ∷ hs) = after_all (after c h) hs
 
 -- the events that are reported then
 abbrev pub events_at : ClientState → Happening → List Event
-events_at c (Taken reply) = events_of (reaction_to_reply c reply).reaction
+events_at c (Replied reply) = events_of (reaction_to_reply c reply).reaction
 events_at c _ = []
 
 -- the events that a client reports, in order
@@ -423,7 +430,7 @@ reported_events c (h ∷ hs) = events_at c h ++ reported_events (after c h) hs
 abbrev pub taken_of : ClientState → List Frame → List Happening
 taken_of c [] = []
 taken_of c (f ∷ fs) =
-    Taken f ∷ (if is_some (fault_of (reaction_to_reply c f).reaction) then [] else taken_of (reaction_to_reply c f).state fs)
+    Replied f ∷ (if is_some (fault_of (reaction_to_reply c f).reaction) then [] else taken_of (reaction_to_reply c f).state fs)
 
 -- the client's failure, where the codec stopped
 abbrev pub failure_at : Result (Unit {0}) ReadFault → List Happening
@@ -436,12 +443,12 @@ happenings_of c fs answer = taken_of c fs ++ (if is_some (takes_all c fs).fault 
 
 -- a reply, or a failure
 abbrev pub IsFed : Happening → Type 0
-IsFed (Taken reply) = Unit {0}
+IsFed (Replied reply) = Unit {0}
 IsFed Failing = Unit {0}
 IsFed _ = ⊥
 
--- The replies that a piece makes whole happened to a client, one after another: they led from one state to the other,
--- their frames were written and their events reported.
+-- The replies that a piece makes whole happened to a client, one after another: they led from one
+-- state to the other, their frames were written and their events reported.
 pub record Happened (old : Client) (piece out : List ℕ) (events : List Event) (new : Client) : Type 0 where
   pub answer : Result (Unit {0}) ReadFault
   pub replies : List Frame
@@ -459,18 +466,18 @@ pub record NothingHappened (old : Client) (out : List ℕ) (events : List Event)
   pub reported : events ≡ []
   pub same : new ≡ old
 
--- All that a client writes are the frames of happenings: of an accepted call; of none where a call is refused; and of
--- the replies that it is fed, taken one after another, up to its failure, where no memory is refused. What it reports
--- are their events, and nothing happens once it has failed.
+-- All that a client writes are the frames of happenings: of an accepted call; of none where a call
+-- is refused; and of the replies that it is fed, taken one after another, up to its failure, where
+-- no memory is refused. What it reports are their events, and nothing happens once it has failed.
 pub record ClientsHappen : Type 0 where
-  pub accepted : (old new : ClientState) (want : Want) (bytes : List ℕ) → Accepts old want new bytes →
+  pub accepted : (old new : ClientState) (want : ClientCall) (bytes : List ℕ) → Accepts old want new bytes →
       (bytes ≡ flat_map encoding (frames_at old (Accepted want))) × (new ≡ after old (Accepted want))
-  pub refused : (old new : ClientState) (want : Want) (fault : CallFault) → Refuses old want fault new →
+  pub refused : (old new : ClientState) (want : ClientCall) (fault : CallFault) → Refuses old want fault new →
       (new ≡ after old (TurnedDown want)) ⊎ (new ≡ after old (Lacking want))
   pub fed : (old new : Client) (piece out : List ℕ) (events : List Event) (fault : Option ClientFault) →
       FeedsClient old piece out events fault new → old.state.failed ≡ false → fault ≢ Some Memory → Happened old piece out events new
   pub failed : (old new : Client) (piece out : List ℕ) (events : List Event) (fault : Option ClientFault) →
       FeedsClient old piece out events fault new → old.state.failed ≡ true → NothingHappened old out events new
   pub replies : (c : ClientState) (fs : List Frame) → (takes_all c fs).fault ≡ None →
-      ((takes_all c fs).sends ≡ frames c (map Taken fs)) × ((takes_all c fs).events ≡ reported_events c (map Taken fs))
-      × ((takes_all c fs).state ≡ after_all c (map Taken fs))
+      ((takes_all c fs).sends ≡ frames c (map Replied fs)) × ((takes_all c fs).events ≡ reported_events c (map Replied fs))
+      × ((takes_all c fs).state ≡ after_all c (map Replied fs))

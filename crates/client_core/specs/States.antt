@@ -43,7 +43,8 @@ abbrev pub simple_version : Scheme → ℕ → Option ℕ
 simple_version Simple version = Some version
 simple_version Double version = None
 
--- the version since which a sync of a scheme asks for what changed: that of the hint held, if both are SimplePIR's
+-- the version since which a sync of a scheme asks for what changed: that of the hint held, if both
+-- are SimplePIR's
 abbrev pub delta_base : Scheme → Option Hint → Option ℕ
 delta_base Simple (Some h) = simple_version h.scheme h.version
 delta_base _ hint = None
@@ -81,7 +82,8 @@ HintFits None (Some h) = ⊥
 HintFits (Some k) None = Unit {0}
 HintFits (Some k) (Some h) = (h.matrix.rows ≡ hint_rows h.scheme (shape_known k) k.plan.dimension) × (h.matrix.cols ≡ k.plan.dimension)
 
--- hello comes before the Welcome; the parts that came are whole ones of the hint; a record asked for is one that there is
+-- hello comes before the Welcome; the parts that came are whole ones of the hint; a record asked
+-- for is one that there is
 abbrev pub CallFits : Call → Option ServerInfo → List ℕ → Type 0
 CallFits Idle known parts = Unit {0}
 CallFits (Hello key) None parts = Unit {0}

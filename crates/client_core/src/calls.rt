@@ -1,18 +1,21 @@
 //! What a call asks of the client, and the bytes that it sends.
 
-ghost use Rattle.std.specs.Prelude.{◌≡◌, ◌≤◌, ◌<◌, ◌+◌, ◌^◌, None, Some, IfOk, IfErr, MatchResult, length};
+ghost use Rattle.std.specs.Prelude.{◌≡◌, ◌≤◌, ◌<◌, ◌+◌, ◌^◌, None, Some, IfOk, IfErr, MatchResult};
+ghost use Rattle.std.specs.Prelude.{length};
 ghost use Rattle.frame_codec.specs.Frames.{IsFrame, payload_size, payload_limit, encoding};
 ghost use Rattle.pir_schemes.specs.Schemes.{scheme_byte};
 ghost use Rattle.pir_schemes.specs.Retrievals.{query_words};
 ghost use Rattle.client_core.specs.declared.state.ClientState.{ClientState};
-ghost use Rattle.client_core.specs.States.{IsKnown, shape_known, is_ready, is_idle, known_count, scheme_held, delta_base};
-ghost use Rattle.client_core.specs.Rooms.{IsAskRoom};
-ghost use Rattle.client_core.specs.Calls.{Want, refusal, hello_refusal, change_refusal, call_since, call_frame};
+ghost use Rattle.client_core.specs.States.{IsKnown, shape_known, is_ready, is_idle, known_count};
+ghost use Rattle.client_core.specs.States.{scheme_held, delta_base};
+ghost use Rattle.client_core.specs.Buffers.{IsAskBuffers};
+ghost use Rattle.client_core.specs.Calls.{ClientCall, refusal, hello_refusal, change_refusal, call_since};
+ghost use Rattle.client_core.specs.Calls.{call_frame};
 
 use crate::state::{Call, CallFault, ClientState, Hint, ServerInfo};
 use frame_codec::{Bytes, Frame, Words, write_frame};
 use matrix_u32::Kernel;
-use pir_schemes::{QueryMasks, QueryRoom, Scheme, SecretSeed, query_count};
+use pir_schemes::{QueryBuffers, QueryMasks, Scheme, SecretSeed, query_count};
 use std::alloc::Global;
 
 /// The number after the last retrieval of a seed.
@@ -78,9 +81,9 @@ pub(crate) fn may_change(state: &ClientState) -> Result<ServerInfo, CallFault>
 
 /// The checks of `ask`, in their order. Answers what is known.
 pub(crate) fn may_ask(state: &ClientState, index: u32) -> Result<ServerInfo, CallFault>
-    ensures { MatchResult result (λ k. (refusal (Want.Ask index) state.now ≡ None) ×
+    ensures { MatchResult result (λ k. (refusal (ClientCall.Ask index) state.now ≡ None) ×
         (state.now.known ≡ Some k) × (index < k.count) × (state.now.number < 2 ^ 62))
-        (λ e. refusal (Want.Ask index) state.now ≡ Some e) }
+        (λ e. refusal (ClientCall.Ask index) state.now ≡ Some e) }
 {
     if state.failed {
         return Err(CallFault::Failed);
@@ -124,8 +127,8 @@ pub(crate) fn scheme_of(hint: &Option<Hint>) -> Scheme
     }
 }
 
-/// The version since which a sync of a scheme asks for what changed: that of the hint held, if both are
-/// SimplePIR's.
+/// The version since which a sync of a scheme asks for what changed: that of the hint held, if both
+/// are SimplePIR's.
 pub(crate) fn base_of(scheme: Scheme, hint: &Option<Hint>) -> Option<u64>
     ensures { result ≡ delta_base scheme hint.now }
 {
@@ -138,8 +141,8 @@ pub(crate) fn base_of(scheme: Scheme, hint: &Option<Hint>) -> Option<u64>
     }
 }
 
-/// The call that asks for what changed since a version: for records in a wide store, for rows of the hint in an
-/// ordinary one.
+/// The call that asks for what changed since a version: for records in a wide store, for rows of
+/// the hint in an ordinary one.
 pub(crate) fn call_since(wide: bool, since: u64) -> Call
     ensures { result ≡ call_since wide since }
 {
@@ -211,30 +214,30 @@ pub(crate) fn append_bytes(alloc: Global, bytes: &[u8]) -> Result<Vec<u8>, CallF
 
 /// The memory of a query: that of its words, and room for the bytes of its frame.
 #[derive(Drop)]
-pub(crate) struct AskRoom {
-    words: QueryRoom,
+pub(crate) struct AskBuffers {
+    words: QueryBuffers,
     bytes: Vec<u8>,
 }
 
-/// Memory for a query of a scheme on the last version known. No index, number or secret seed is given, so a refusal
-/// depends on none of them.
-pub(crate) fn ask_room(
+/// Memory for a query of a scheme on the last version known. No index, number or secret seed is
+/// given, so a refusal depends on none of them.
+pub(crate) fn ask_buffers(
     alloc: Global,
     scheme: Scheme,
     known: &ServerInfo,
-) -> Result<AskRoom, CallFault>
+) -> Result<AskBuffers, CallFault>
     requires { IsKnown known.now }
-    ensures room { IfOk result (IsAskRoom scheme known.now) }
+    ensures room { IfOk result (IsAskBuffers scheme known.now) }
     ensures memory { IfErr result (λ e. e ≡ CallFault.Memory) }
 {
-    let Ok(words) = QueryRoom::new(alloc, scheme, &known.plan, known.count as usize) else {
+    let Ok(words) = QueryBuffers::new(alloc, scheme, &known.plan, known.count as usize) else {
         return Err(CallFault::Memory);
     };
     let count = query_count(scheme, &known.layout());
     let Ok(bytes) = Vec::with_capacity(alloc, QUERY_HEAD + 4 * count) else {
         return Err(CallFault::Memory);
     };
-    Ok(AskRoom { words, bytes })
+    Ok(AskBuffers { words, bytes })
 }
 
 /// The bytes of the query for a record. It takes no memory.
@@ -243,7 +246,7 @@ pub(crate) fn ask_room(
 #[tactic(auto, using(crate::proofs::Queries::length_of_query, crate::proofs::Queries::size_of_query))]
 pub(crate) fn query_bytes<K: Kernel>(
     kernel: K,
-    room: AskRoom,
+    room: AskBuffers,
     masks: &Option<QueryMasks>,
     scheme: Scheme,
     known: &ServerInfo,
@@ -251,7 +254,7 @@ pub(crate) fn query_bytes<K: Kernel>(
     number: u64,
     index: u32,
 ) -> Vec<u8>
-    requires room { IsAskRoom scheme known.now room }
+    requires room { IsAskBuffers scheme known.now room }
     requires known { IsKnown known.now }
     requires number { number < 2 ^ 62 }
     requires record { index < known.now.count }
@@ -262,7 +265,7 @@ pub(crate) fn query_bytes<K: Kernel>(
         (query_words scheme (shape_known known.now) known.now.plan.dimension known.now.plan.seed
         seed.now number index)) }
 {
-    let AskRoom { words, mut bytes } = room;
+    let AskBuffers { words, mut bytes } = room;
     let seed = SecretSeed::new(*seed);
     let words = words.fill_masked(kernel, masks, &seed, number, index as usize);
     let frame = Frame::Query {

@@ -23,8 +23,8 @@ use pir_schemes::{Plan, Scheme};
 use std::alloc::{AllocError, Global};
 use std::mem;
 
-/// Changes answer a sync by changed records: their entries move the hint held. These are read in the frame itself, and no
-/// more memory is taken than a row of the public matrix has.
+/// Changes answer a sync by changed records: their entries move the hint held. These are read in
+/// the frame itself, and no more memory is taken than a row of the public matrix has.
 pub(crate) fn take_changes<K: Kernel>(
     alloc: Global,
     kernel: K,

@@ -1,6 +1,7 @@
 //! The client.
 
-ghost use Rattle.std.specs.Prelude.{◌≡◌, ◌≤◌, ◌<◌, ◌^◌, [], List, ℕ, true, None, Some, IfOk, IfErr, MatchOption, MatchResult, length, max};
+ghost use Rattle.std.specs.Prelude.{◌≡◌, ◌≤◌, ◌<◌, ◌^◌, [], List, ℕ, true, None, Some, IfOk, IfErr};
+ghost use Rattle.std.specs.Prelude.{MatchOption, MatchResult, length, max};
 ghost use Rattle.frame_codec.specs.Frames.{encoding};
 ghost use Rattle.frame_codec.specs.declared.frame.Frame.{Frame};
 ghost use Rattle.pir_schemes.specs.Schemes.{scheme_byte};
@@ -8,12 +9,12 @@ ghost use Rattle.pir_schemes.specs.Plans.{client_profile};
 ghost use Rattle.pir_schemes.specs.Retrievals.{query_words};
 ghost use Rattle.client_core.specs.declared.state.ServerInfo.{ServerInfo};
 ghost use Rattle.client_core.specs.States.{fresh, fresh_in, scheme_held, shape_known};
-ghost use Rattle.client_core.specs.Calls.{Want, Accepts, Refuses};
+ghost use Rattle.client_core.specs.Calls.{ClientCall, Accepts, Refuses};
 ghost use Rattle.client_core.specs.Feeding.{Client, FeedsClient};
 ghost use Rattle.client_core.specs.Resuming.{IsDropped, IsResumed, saved_of};
 
 use crate::calls::{
-    append_bytes, ask_room, base_of, call_since, edit_bytes, encoded, frame_since, may_ask,
+    append_bytes, ask_buffers, base_of, call_since, edit_bytes, encoded, frame_since, may_ask,
     may_change, may_hello, query_bytes, scheme_of, spend_number,
 };
 use crate::parts::Parts;
@@ -28,8 +29,9 @@ use pir_schemes::{QueryMasks, Scheme, SecretSeed, client_profile};
 use std::alloc::{AllocError, Global};
 use std::marker::Model;
 
-/// What comes of a piece of the server's stream: the bytes to send next, the events in order, and the fault
-/// that made the client stop. With a fault, the bytes and the events are those of the frames before it.
+/// What comes of a piece of the server's stream: the bytes to send next, the events in order, and
+/// the fault that made the client stop. With a fault, the bytes and the events are those of the
+/// frames before it.
 #[derive(Drop)]
 pub struct Fed {
     pub out: Vec<u8>,
@@ -60,8 +62,9 @@ impl<K: Kernel> Model for ClientCore<K> {
 }
 
 impl<K: Kernel> ClientCore<K> {
-    /// A client of ordinary stores, whose secrets and noise come from `seed`, and whose first retrieval has number
-    /// `first_number`, at most 2^62. The numbers below it are left alone. It takes no memory.
+    /// A client of ordinary stores, whose secrets and noise come from `seed`, and whose first
+    /// retrieval has number `first_number`, at most 2^62. The numbers below it are left alone. It
+    /// takes no memory.
     pub fn new(alloc: Global, kernel: K, seed: [u8; 32], first_number: u64) -> ClientCore<K>
         requires { first_number ≤ 2 ^ 62 }
         ensures { result ≡ record { state = fresh seed first_number; reader = Some [] } }
@@ -69,7 +72,8 @@ impl<K: Kernel> ClientCore<K> {
         ClientCore::of_profile(alloc, kernel, client_profile(false), seed, first_number)
     }
 
-    /// The same client, of wide stores: each kind refuses the other's greeting, and a client the other's Welcome.
+    /// The same client, of wide stores: each kind refuses the other's greeting, and a client the
+    /// other's Welcome.
     pub fn wide(alloc: Global, kernel: K, seed: [u8; 32], first_number: u64) -> ClientCore<K>
         requires { first_number ≤ 2 ^ 62 }
         ensures { result ≡
@@ -78,8 +82,9 @@ impl<K: Kernel> ClientCore<K> {
         ClientCore::of_profile(alloc, kernel, client_profile(true), seed, first_number)
     }
 
-    /// Whether the next greeting is one of wide stores or of ordinary ones: a client that a store refused for its profile
-    /// greets it again, in the same session, with the other. Nothing else changes, and no number is spent.
+    /// Whether the next greeting is one of wide stores or of ordinary ones: a client that a store
+    /// refused for its profile greets it again, in the same session, with the other. Nothing else
+    /// changes, and no number is spent.
     pub fn speak(&mut self, wide: bool)
         ensures state { self.new.state ≡
             record self.old.state { profile = client_profile wide } }
@@ -141,8 +146,8 @@ impl<K: Kernel> ClientCore<K> {
         self.state.hint.as_ref()
     }
 
-    /// Leaves the numbers below `next` alone, at most 2^62: the next retrieval has that number, or the one that it would
-    /// have had where that is larger.
+    /// Leaves the numbers below `next` alone, at most 2^62: the next retrieval has that number, or
+    /// the one that it would have had where that is larger.
     pub fn skip_to(&mut self, next: u64)
         requires { next ≤ 2 ^ 62 }
         ensures state { self.new.state ≡
@@ -172,15 +177,17 @@ impl<K: Kernel> ClientCore<K> {
         }
     }
 
-    /// Goes on with what was saved of another client, once this one was let in. Answers whether its hint is held now: it is,
-    /// where the plan is equal, neither the version known then nor the hint's is later than the server's, the records were no
-    /// more, and as many where the version is the same. Else the hint saved is dropped, and all is as it was. The
-    /// number saved is left alone: [`new`](ClientCore::new) takes it.
+    /// Goes on with what was saved of another client, once this one was let in. Answers whether its
+    /// hint is held now: it is, where the plan is equal, neither the version known then nor the
+    /// hint's is later than the server's, the records were no more, and as many where the version
+    /// is the same. Else the hint saved is dropped, and all is as it was. The number saved is left
+    /// alone: [`new`](ClientCore::new) takes it.
     ///
-    /// What no comparison shows: other records under an equal plan, with its public seed, and an equal version. The hint
-    /// is wrong for these.
+    /// What no comparison shows: other records under an equal plan, with its public seed, and an
+    /// equal version. The hint is wrong for these.
     ///
-    /// Refused in this order: `Failed`, `NotReady` (no Welcome came yet), `Busy`. A refusal changes nothing.
+    /// Refused in this order: `Failed`, `NotReady` (no Welcome came yet), `Busy`. A refusal changes
+    /// nothing.
     pub fn resume(&mut self, saved: SavedClient) -> Result<bool, CallFault>
         ensures resumed { IsResumed self.old.state saved result self.new.state }
         ensures reader { self.new.reader ≡ self.old.reader }
@@ -195,7 +202,8 @@ impl<K: Kernel> ClientCore<K> {
 
     /// Drops the hint held, where there is one: the next sync goes by parts.
     ///
-    /// Refused in this order: `Failed`, `NotReady` (no Welcome came yet), `Busy`. A refusal changes nothing.
+    /// Refused in this order: `Failed`, `NotReady` (no Welcome came yet), `Busy`. A refusal changes
+    /// nothing.
     pub fn drop_hint(&mut self) -> Result<(), CallFault>
         ensures dropped { IsDropped self.old.state result self.new.state }
         ensures reader { self.new.reader ≡ self.old.reader }
@@ -208,12 +216,13 @@ impl<K: Kernel> ClientCore<K> {
     /// Asks to be let in: with a key of 32 zero bytes as a reader, with the publisher's key as the
     /// publisher. Gives the bytes to send. A client that isn't let in yet holds no hint.
     ///
-    /// Refused in this order: `Failed`, `AlreadyWelcome`, `Busy`, `Memory`. A refusal changes nothing.
+    /// Refused in this order: `Failed`, `AlreadyWelcome`, `Busy`, `Memory`. A refusal changes
+    /// nothing.
     pub fn hello(&mut self, key: [u8; 32]) -> Result<Vec<u8>, CallFault>
         ensures accepted { IfOk result (λ bytes. Accepts self.old.state
-            (Want.Hello key) self.new.state bytes.items) }
+            (ClientCall.Hello key) self.new.state bytes.items) }
         ensures refused { IfErr result
-            (λ e. Refuses self.old.state (Want.Hello key) e self.new.state) }
+            (λ e. Refuses self.old.state (ClientCall.Hello key) e self.new.state) }
         ensures hint { IfOk result (λ _. self.new.state.hint ≡ None) }
         ensures reader { self.new.reader ≡ self.old.reader }
     {
@@ -227,18 +236,19 @@ impl<K: Kernel> ClientCore<K> {
         Ok(bytes)
     }
 
-    /// Asks for the hint of the last version known, part by part, and drops the hint held. A client that
-    /// holds a SimplePIR hint asks for what changed since, and keeps the hint meanwhile: for the rows of the hint,
-    /// or, of a wide store, for the records, by which it moves the hint itself. If the server doesn't have these, the
-    /// parts are asked for. Gives the bytes to send; `feed` gives those that ask for the further parts.
+    /// Asks for the hint of the last version known, part by part, and drops the hint held. A client
+    /// that holds a SimplePIR hint asks for what changed since, and keeps the hint meanwhile: for
+    /// the rows of the hint, or, of a wide store, for the records, by which it moves the hint
+    /// itself. If the server doesn't have these, the parts are asked for. Gives the bytes to send;
+    /// `feed` gives those that ask for the further parts.
     ///
-    /// Refused in this order: `Failed`, `NotReady` (no Welcome came yet), `Busy`, `Memory`. A refusal changes
-    /// nothing.
+    /// Refused in this order: `Failed`, `NotReady` (no Welcome came yet), `Busy`, `Memory`. A
+    /// refusal changes nothing.
     pub fn sync(&mut self, scheme: Scheme) -> Result<Vec<u8>, CallFault>
         ensures accepted { IfOk result (λ bytes. Accepts self.old.state
-            (Want.Sync scheme) self.new.state bytes.items) }
+            (ClientCall.Sync scheme) self.new.state bytes.items) }
         ensures refused { IfErr result
-            (λ e. Refuses self.old.state (Want.Sync scheme) e self.new.state) }
+            (λ e. Refuses self.old.state (ClientCall.Sync scheme) e self.new.state) }
         ensures reader { self.new.reader ≡ self.old.reader }
     {
         let known = may_change(&self.state)?;
@@ -265,13 +275,14 @@ impl<K: Kernel> ClientCore<K> {
         Ok(bytes)
     }
 
-    /// Prepares the next `count` retrievals, at most 16: their secrets are drawn, and each row of the first public matrix is
-    /// made once for all of them, before any record is named. What comes of it is kept until other retrievals are prepared. An
-    /// `ask` makes its query of it, if it was made for the number of that and the number of columns known then; else as if
-    /// nothing were prepared. Nothing is done before the Welcome, nor where the next retrieval is prepared.
+    /// Prepares the next `count` retrievals, at most 16: their secrets are drawn, and each row of
+    /// the first public matrix is made once for all of them, before any record is named. What comes
+    /// of it is kept until other retrievals are prepared. An `ask` makes its query of it, if it was
+    /// made for the number of that and the number of columns known then; else as if nothing were
+    /// prepared. Nothing is done before the Welcome, nor where the next retrieval is prepared.
     ///
-    /// No call and no reply is another for it, and no number is spent. Only refused memory gives an `Err`, and then nothing is
-    /// prepared.
+    /// No call and no reply is another for it, and no number is spent. Only refused memory gives an
+    /// `Err`, and then nothing is prepared.
     pub fn prepare_queries(&mut self, count: usize) -> Result<(), AllocError>
         ensures { self.new ≡ self.old }
     {
@@ -290,30 +301,30 @@ impl<K: Kernel> ClientCore<K> {
         Ok(())
     }
 
-    /// Asks for record `index` of the version whose hint is held, by a query of the hint's scheme that hides which. Gives
-    /// the bytes to send.
+    /// Asks for record `index` of the version whose hint is held, by a query of the hint's scheme
+    /// that hides which. Gives the bytes to send.
     ///
-    /// Refused in this order: `Failed`; `NotReady` (no Welcome came yet, no hint is held, or its version is
-    /// not the last version known); `Busy`; `BadIndex` (the last version known has no such record);
-    /// `SeedUsedUp` (the next number is 2^62); `Memory`. The number is spent where only `Memory` is left, and
-    /// nothing else changes by a refusal.
+    /// Refused in this order: `Failed`; `NotReady` (no Welcome came yet, no hint is held, or its
+    /// version is not the last version known); `Busy`; `BadIndex` (the last version known has no
+    /// such record); `SeedUsedUp` (the next number is 2^62); `Memory`. The number is spent where
+    /// only `Memory` is left, and nothing else changes by a refusal.
     pub fn ask(&mut self, index: u32) -> Result<Vec<u8>, CallFault>
         ensures accepted { IfOk result (λ bytes. Accepts self.old.state
-            (Want.Ask index) self.new.state bytes.items) }
+            (ClientCall.Ask index) self.new.state bytes.items) }
         ensures query { IfOk result (λ bytes. (k : ServerInfo) × (self.old.state.known ≡ Some k)
             × (bytes.items ≡ encoding
             (Frame.Query (scheme_byte (scheme_held self.old.state.hint)) k.version
-            (query_words (scheme_held self.old.state.hint) (shape_known k) k.plan.dimension k.plan.seed
-            self.old.state.seed self.old.state.number index)))) }
+            (query_words (scheme_held self.old.state.hint) (shape_known k) k.plan.dimension
+            k.plan.seed self.old.state.seed self.old.state.number index)))) }
         ensures refused { IfErr result
-            (λ e. Refuses self.old.state (Want.Ask index) e self.new.state) }
+            (λ e. Refuses self.old.state (ClientCall.Ask index) e self.new.state) }
         ensures reader { self.new.reader ≡ self.old.reader }
     {
         let known = may_ask(&self.state, index)?;
         // Spent before memory is asked for, so that no number serves two queries.
         let number = spend_number(&mut self.state);
         let scheme = scheme_of(&self.state.hint);
-        let room = ask_room(self.alloc, scheme, &known)?;
+        let room = ask_buffers(self.alloc, scheme, &known)?;
         let bytes = query_bytes(
             self.kernel,
             room,
@@ -333,17 +344,17 @@ impl<K: Kernel> ClientCore<K> {
         Ok(bytes)
     }
 
-    /// Gives the server these bytes, at most 65,535, for record `index` of the next version. It judges the
-    /// index and the length. Gives the bytes to send.
+    /// Gives the server these bytes, at most 65,535, for record `index` of the next version. It
+    /// judges the index and the length. Gives the bytes to send.
     ///
-    /// Refused in this order: `Failed`, `NotReady` (no Welcome came yet), `Busy`, `Memory`. A refusal changes
-    /// nothing.
+    /// Refused in this order: `Failed`, `NotReady` (no Welcome came yet), `Busy`, `Memory`. A
+    /// refusal changes nothing.
     pub fn edit(&mut self, index: u32, bytes: &[u8]) -> Result<Vec<u8>, CallFault>
         requires { length bytes.now ≤ 65535 }
         ensures accepted { IfOk result (λ sent. Accepts self.old.state
-            (Want.Edit index bytes.now) self.new.state sent.items) }
+            (ClientCall.Edit index bytes.now) self.new.state sent.items) }
         ensures refused { IfErr result
-            (λ e. Refuses self.old.state (Want.Edit index bytes.now) e self.new.state) }
+            (λ e. Refuses self.old.state (ClientCall.Edit index bytes.now) e self.new.state) }
         ensures reader { self.new.reader ≡ self.old.reader }
     {
         may_change(&self.state)?;
@@ -358,17 +369,17 @@ impl<K: Kernel> ClientCore<K> {
         Ok(sent)
     }
 
-    /// Gives the server these bytes, at most 65,535, as one record more of the next version. It judges the length and
-    /// whether it has room. Gives the bytes to send.
+    /// Gives the server these bytes, at most 65,535, as one record more of the next version. It
+    /// judges the length and whether it has room. Gives the bytes to send.
     ///
-    /// Refused in this order: `Failed`, `NotReady` (no Welcome came yet), `Busy`, `Memory`. A refusal changes
-    /// nothing.
+    /// Refused in this order: `Failed`, `NotReady` (no Welcome came yet), `Busy`, `Memory`. A
+    /// refusal changes nothing.
     pub fn append(&mut self, bytes: &[u8]) -> Result<Vec<u8>, CallFault>
         requires { length bytes.now ≤ 65535 }
         ensures accepted { IfOk result (λ sent. Accepts self.old.state
-            (Want.Append bytes.now) self.new.state sent.items) }
+            (ClientCall.Append bytes.now) self.new.state sent.items) }
         ensures refused { IfErr result
-            (λ e. Refuses self.old.state (Want.Append bytes.now) e self.new.state) }
+            (λ e. Refuses self.old.state (ClientCall.Append bytes.now) e self.new.state) }
         ensures reader { self.new.reader ≡ self.old.reader }
     {
         may_change(&self.state)?;
@@ -382,14 +393,15 @@ impl<K: Kernel> ClientCore<K> {
         Ok(sent)
     }
 
-    /// Asks the server to make its edits and the records appended the next version. Gives the bytes to send.
+    /// Asks the server to make its edits and the records appended the next version. Gives the bytes
+    /// to send.
     ///
-    /// Refused in this order: `Failed`, `NotReady` (no Welcome came yet), `Busy`, `Memory`. A refusal changes
-    /// nothing.
+    /// Refused in this order: `Failed`, `NotReady` (no Welcome came yet), `Busy`, `Memory`. A
+    /// refusal changes nothing.
     pub fn publish(&mut self) -> Result<Vec<u8>, CallFault>
         ensures accepted { IfOk result
-            (λ bytes. Accepts self.old.state Want.Publish self.new.state bytes.items) }
-        ensures refused { IfErr result (λ e. Refuses self.old.state Want.Publish e self.new.state) }
+            (λ bytes. Accepts self.old.state ClientCall.Publish self.new.state bytes.items) }
+        ensures refused { IfErr result (λ e. Refuses self.old.state ClientCall.Publish e self.new.state) }
         ensures reader { self.new.reader ≡ self.old.reader }
     {
         may_change(&self.state)?;
@@ -400,11 +412,11 @@ impl<K: Kernel> ClientCore<K> {
 
     /// Takes the next piece of the server's stream.
     ///
-    /// Each frame that is whole now is taken as the reply to the outstanding call. `BadWelcome` where a
-    /// Welcome has a profile that is no form of these records, sizes beyond the limits or version 0; `BadReply` where
-    /// a reply is none that the outstanding call can have, where no call is outstanding, and where the bytes are no
-    /// frame; `Memory` where memory was refused; `Failed` where an earlier feed had a fault. After each of
-    /// them every call answers `Failed`.
+    /// Each frame that is whole now is taken as the reply to the outstanding call. `BadWelcome`
+    /// where a Welcome has a profile that is no form of these records, sizes beyond the limits or
+    /// version 0; `BadReply` where a reply is none that the outstanding call can have, where no
+    /// call is outstanding, and where the bytes are no frame; `Memory` where memory was refused;
+    /// `Failed` where an earlier feed had a fault. After each of them every call answers `Failed`.
     pub fn feed(&mut self, piece: &[u8]) -> Fed
         ensures { FeedsClient self.old piece.now result.out.items result.events.items result.fault
             self.new }

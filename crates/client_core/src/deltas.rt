@@ -120,8 +120,8 @@ fn put_row(matrix: &mut Matrix, number: usize, words: &[u32])
     matrix.row_mut(number).copy_from_slice(words);
 }
 
-/// A NoDelta answers a sync by delta or by changed records: the hint held is dropped, and the parts of the version
-/// named are asked for.
+/// A NoDelta answers a sync by delta or by changed records: the hint held is dropped, and the parts
+/// of the version named are asked for.
 pub(crate) fn take_no_delta(
     alloc: Global,
     state: &mut ClientState,

@@ -1,11 +1,12 @@
 //! The client's side of a session: its calls, what it sends, and what it takes from a server.
 //!
-//! A client is a state machine without a connection. A call gives the bytes to send; `feed` takes the bytes
-//! that came, in any pieces, and gives the bytes to send next and the events. It holds at most one hint and
-//! one outstanding call, and answers `Failed` to everything once a reply was bad or memory was refused
-//! while it took one. What lasts of a client can be saved, and a later one that is let in goes on with it.
+//! A client is a state machine without a connection. A call gives the bytes to send; `feed` takes
+//! the bytes that came, in any pieces, and gives the bytes to send next and the events. It holds at
+//! most one hint and one outstanding call, and answers `Failed` to everything once a reply was bad
+//! or memory was refused while it took one. What lasts of a client can be saved, and a later one
+//! that is let in goes on with it.
 //!
-//! Its tests are in `session_tests::client` and `tests/long/session_tests`.
+//! Its tests are in `tests_session::client` and `tests/long/tests_session`.
 #![tactic(auto)]
 
 mod calls;

@@ -27,8 +27,8 @@ pub(crate) fn serve_next(
     }
 }
 
-/// The masks of `count` retrievals from number `first` on, on the last version known: of 16 at most, and of no more than the
-/// seed has numbers. Only refused memory gives an `Err`.
+/// The masks of `count` retrievals from number `first` on, on the last version known: of 16 at
+/// most, and of no more than the seed has numbers. Only refused memory gives an `Err`.
 pub(crate) fn next_masks<K: Kernel>(
     alloc: Global,
     kernel: K,

@@ -1,7 +1,9 @@
 //! What comes of a reply: a function for each kind.
 
-ghost use Rattle.std.specs.Prelude.{◌≡◌, ◌≤◌, ◌<◌, ◌*◌, ◌^◌, ◌++◌, [], length, IfOk, IfErr, OnOk, OnErr, IfSome, IfNone, MatchOption, true, false};
-ghost use Rattle.pir_schemes.specs.Retrievals.{hint_rows as rows_of_hint, answer_count as words_of_answer, reading};
+ghost use Rattle.std.specs.Prelude.{◌≡◌, ◌≤◌, ◌<◌, ◌*◌, ◌^◌, ◌++◌, [], length, IfOk, IfErr, OnOk};
+ghost use Rattle.std.specs.Prelude.{OnErr, IfSome, IfNone, MatchOption, true, false};
+ghost use Rattle.pir_schemes.specs.Retrievals.{hint_rows as rows_of_hint};
+ghost use Rattle.pir_schemes.specs.Retrievals.{answer_count as words_of_answer, reading};
 ghost use Rattle.client_core.specs.States.{IsState, IsKnown, shape_known};
 ghost use Rattle.client_core.specs.Replies.{
   faulty,
@@ -300,7 +302,8 @@ fn known_after_stale(
     current_of(known, version, count)
 }
 
-/// What is known after a reply that names this version as the current one, with so many records, where it may.
+/// What is known after a reply that names this version as the current one, with so many records,
+/// where it may.
 pub(crate) fn current_of(known: &ServerInfo, version: u64, count: u32) -> Option<ServerInfo>
     ensures { MatchOption result (is_current known.now version count ≡ false)
         (λ k. (is_current known.now version count ≡ true) ×

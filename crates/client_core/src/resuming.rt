@@ -8,8 +8,8 @@ ghost use Rattle.client_core.specs.Resuming.{HasBecome, IsHintFor, MayHold};
 use crate::state::{Hint, ServerInfo};
 use pir_schemes::hint_rows;
 
-/// What is saved of a client, but for its seed: the number of its next retrieval, what the server reported last, and the
-/// hint held. A number isn't to be given to two clients of one seed.
+/// What is saved of a client, but for its seed: the number of its next retrieval, what the server
+/// reported last, and the hint held. A number isn't to be given to two clients of one seed.
 #[derive(Drop)]
 pub struct SavedClient {
     pub number: u64,

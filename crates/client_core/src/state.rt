@@ -12,8 +12,8 @@ use matrix_u32::Matrix;
 use pir_schemes::{Plan, Scheme};
 use thiserror::Error;
 
-/// What the server reported of its store: the last version known, how many records that version has, and the plan,
-/// which is the same in every version.
+/// What the server reported of its store: the last version known, how many records that version
+/// has, and the plan, which is the same in every version.
 #[derive(Clone, Copy, Debug, PartialEq, Eq)]
 pub struct ServerInfo {
     pub version: u64,
@@ -71,7 +71,8 @@ pub enum Call {
     Changes {
         since: u64,
     },
-    /// The query of the scheme for record `index` was sent; `number` is that of the retrieval under the seed.
+    /// The query of the scheme for record `index` was sent; `number` is that of the retrieval under
+    /// the seed.
     Ask {
         index: u32,
         scheme: Scheme,
@@ -207,7 +208,8 @@ impl ClientFault {
     }
 }
 
-/// What comes of a reply: the next part is asked for, the call ends with an event, or the reply is bad.
+/// What comes of a reply: the next part is asked for, the call ends with an event, or the reply is
+/// bad.
 #[derive(Drop)]
 pub enum Reaction {
     Asks {

@@ -1,12 +1,14 @@
 //! Replies taken one after another.
 
-ghost use Rattle.std.specs.Prelude.{◌≡◌, ◌++◌, ◌⊎◌, [], IfOk, OnOk, OnErr, true, false, length, None};
+ghost use Rattle.std.specs.Prelude.{◌≡◌, ◌++◌, ◌⊎◌, [], IfOk, OnOk, OnErr, true, false, length};
+ghost use Rattle.std.specs.Prelude.{None};
 ghost use Rattle.std.specs.List.{flat_map, AllByRecursion};
 ghost use Rattle.frame_codec.specs.declared.frame.Frame.{Frame};
 ghost use Rattle.frame_codec.specs.Frames.{IsFrame, encoding};
 ghost use Rattle.client_core.specs.States.{IsState, Keeps};
 ghost use Rattle.client_core.specs.Replies.{reaction_to_reply};
-ghost use Rattle.client_core.specs.Feeding.{sends_of, events_of, fault_of, takes_all, ends_with, codec_fault, Follows, BreaksOff};
+ghost use Rattle.client_core.specs.Feeding.{sends_of, events_of, fault_of, takes_all, ends_with};
+ghost use Rattle.client_core.specs.Feeding.{codec_fault, Follows, BreaksOff};
 
 use crate::changes::take_changes;
 use crate::deltas::{take_delta, take_no_delta};
@@ -83,7 +85,8 @@ fn take_frame<K: Kernel>(
     }
 }
 
-// Adds what a reaction sends and what it reports, and answers its fault. Where memory is refused nothing is added.
+// Adds what a reaction sends and what it reports, and answers its fault. Where memory is refused
+// nothing is added.
 fn react(
     reaction: Reaction,
     out: &mut Vec<u8>,
@@ -188,8 +191,8 @@ fn fault_after(answer: Result<(), ReadFault>) -> Option<ClientFault>
     }
 }
 
-/// Takes the frames of a piece, after which the codec answered `answer`. Adds the bytes to send and the
-/// events, and answers the fault.
+/// Takes the frames of a piece, after which the codec answered `answer`. Adds the bytes to send and
+/// the events, and answers the fault.
 pub(crate) fn take_replies<K: Kernel>(
     alloc: Global,
     kernel: K,

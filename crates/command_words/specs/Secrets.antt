@@ -44,7 +44,8 @@ IsSeedText text seed = (line : List ℕ) × IsLineOf text line × (length line �
 abbrev pub IsNoSeedText : List ℕ → Type 0
 IsNoSeedText text = (line : List ℕ) × IsLineOf text line × IsNoBytes32 (Some line)
 
--- what comes of what a file begins with: its seed, `Value` for a text that has none, `File` for what is no text
+-- what comes of what a file begins with: its seed, `Value` for a text that has none, `File` for
+-- what is no text
 abbrev pub IsReadAs : List ℕ → List ℕ → Result (List ℕ) Failure → Type 0
 IsReadAs takes text (Ok seed) = IsSeedText text seed
 IsReadAs takes text (Err (Value shown)) = IsUtf8 text × IsNoSeedText text × (shown.now ≡ takes)
@@ -56,7 +57,8 @@ abbrev pub IsUnread : Result (List ℕ) Failure → Type 0
 IsUnread (Err (Fault name)) = name.now ≡ codes "File"
 IsUnread _ = ⊥
 
--- the bytes on the line itself are the seed; else what comes of the file, where it is said which bytes a file begins with and which can't be read
+-- the bytes on the line itself are the seed; else what comes of the file, where it is said which
+-- bytes a file begins with and which can't be read
 abbrev pub GivesSeed : (List ℕ → List ℕ → Type 0) → (List ℕ → Type 0) → List ℕ → Secret → Result (List ℕ) Failure → Type 0
 GivesSeed begins fails takes (Bytes bytes) result = result ≡ Ok bytes
 GivesSeed begins fails takes (File name) result =

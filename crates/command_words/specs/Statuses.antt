@@ -8,7 +8,8 @@ use Rattle.command_words.specs.declared.failure.Failure.TheVariants.{Refused, St
 use Rattle.command_words.specs.declared.bad_line.BadLine.{BadLine}
 use Rattle.command_words.specs.declared.bad_line.BadLine.TheVariants as line
 
--- 1 for what the server said, 2 for a secret that its option doesn't take, 3 for a fault, 4 for refused memory
+-- 1 for what the server said, 2 for a secret that its option doesn't take, 3 for a fault, 4 for
+-- refused memory
 abbrev pub status_of : Failure → ℕ
 status_of (Refused code) = 1
 status_of (Stale version) = 1
@@ -31,7 +32,8 @@ IsWriteFault _ = ⊥
 abbrev pub AsksForHelp : ErrorKind → Type 0
 AsksForHelp kind = (kind ≡ DisplayHelp) ⊎ (kind ≡ DisplayVersion)
 
--- 0 if help was asked for, 3 if it was and can't be printed, 2 for a bad command line, 4 if memory was refused
+-- 0 if help was asked for, 3 if it was and can't be printed, 2 for a bad command line, 4 if memory
+-- was refused
 abbrev pub Reports : BadLine → ℕ → Type 0
 Reports (line.Form e) status =
     (((status ≡ 0) ⊎ (status ≡ 3)) × AsksForHelp (kind_of e)) ⊎ ((status ≡ 2) × (AsksForHelp (kind_of e) → ⊥))

@@ -15,7 +15,8 @@ use std::alloc::{AllocError, AllocFailed};
 pub enum BadLine<'a> {
     /// It is not of the program's form, or asks for help: the text that says so.
     Form(Error),
-    /// A value is not one that its option or word takes: what that takes. The value is not shown, since it may be a secret.
+    /// A value is not one that its option or word takes: what that takes. The value is not shown,
+    /// since it may be a secret.
     Value(&'static str),
     /// The same with the value given.
     Given(&'static str, &'a str),
@@ -58,8 +59,8 @@ impl<'a, T: Drop> From<AllocFailed<T>> for BadLine<'a> {
 }
 
 impl BadLine<'_> {
-    /// Prints what is to be said, and answers the exit status: 0 for help, 2 for a bad command line, 3 for help that can't be
-    /// printed and 4 for refused memory.
+    /// Prints what is to be said, and answers the exit status: 0 for help, 2 for a bad command
+    /// line, 3 for help that can't be printed and 4 for refused memory.
     pub fn report<R: Print + Eprint>(&self, rt: &R) -> u8
         ensures { Reports self.now result }
     {

@@ -11,12 +11,14 @@ const STANDARD: [i32; 3] = [0, 1, 2];
 /// What is read from there is nothing.
 const NULL_DEVICE: &[u8] = b"/dev/null";
 
-/// Opens the null device, to be read alone, at each standard descriptor that is closed. So no file and no connection that is
-/// opened later gets one of their numbers, and what is printed can't go there: printing to an output that was closed fails.
+/// Opens the null device, to be read alone, at each standard descriptor that is closed. So no file
+/// and no connection that is opened later gets one of their numbers, and what is printed can't go
+/// there: printing to an output that was closed fails.
 ///
 /// # Errors
 ///
-/// `Fault` with `File` if a standard descriptor is closed and the null device can't be opened in its place.
+/// `Fault` with `File` if a standard descriptor is closed and the null device can't be opened in
+/// its place.
 pub fn open_standard_descriptors() -> Result<(), Failure>
     ensures { IfErr result IsFileFault }
 {

@@ -13,8 +13,8 @@ use std::io;
 pub struct Failed {
     /// The line that says that it failed.
     pub failure: Failure,
-    /// What and where: a file's name and the system's error, an address, a line of the input. None if there is no more to
-    /// say, or no memory to say it.
+    /// What and where: a file's name and the system's error, an address, a line of the input. None
+    /// if there is no more to say, or no memory to say it.
     pub cause: Option<String>,
 }
 
@@ -31,7 +31,8 @@ impl Failed {
         }
     }
 
-    /// Prints the failure's line, and with `verbose` a second line with its cause, if there is one. Answers the exit status.
+    /// Prints the failure's line, and with `verbose` a second line with its cause, if there is one.
+    /// Answers the exit status.
     pub fn report<R: Eprint>(&self, rt: &R, verbose: bool) -> u8
         ensures { result ≡ status_of self.now.failure }
     {
@@ -61,7 +62,8 @@ pub fn printed(rt: &HostRuntime, said: io::Result<()>) -> Result<(), Failed>
     }
 }
 
-/// How a command on a file failed: with the file's name, and the system's error if it can't be opened, or what the fault means.
+/// How a command on a file failed: with the file's name, and the system's error if it can't be
+/// opened, or what the fault means.
 pub fn file_failed(rt: &HostRuntime, name: &str, failure: Failure, means: &str) -> Failed
     ensures { result.failure ≡ failure }
 {
@@ -73,7 +75,8 @@ pub fn file_failed(rt: &HostRuntime, name: &str, failure: Failure, means: &str) 
     Failed::by(failure, cause)
 }
 
-// Whether a file can be opened. What is no file stays unopened, since a pipe that nobody writes to would hold the opener up.
+// Whether a file can be opened. What is no file stays unopened, since a pipe that nobody writes to
+// would hold the opener up.
 fn opens(rt: &HostRuntime, name: &str) -> io::Result<()> {
     if fs::metadata(rt, name)?.is_file() {
         File::open(rt, name)?;

@@ -30,8 +30,8 @@ pub enum Failure {
 }
 
 impl Failure {
-    /// Its exit status: 1 for what the server said, 2 for a secret that its option doesn't take, 3 for a fault, 4 for
-    /// refused memory.
+    /// Its exit status: 1 for what the server said, 2 for a secret that its option doesn't take, 3
+    /// for a fault, 4 for refused memory.
     pub fn status(self) -> u8
         ensures { result ≡ status_of self }
     {

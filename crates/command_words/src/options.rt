@@ -76,7 +76,8 @@ pub fn text_at<'a>(
 ///
 /// # Errors
 ///
-/// `Value`, with what it takes, where none was given; `Given`, with the text too, where it is no number or a larger one.
+/// `Value`, with what it takes, where none was given; `Given`, with the text too, where it is no
+/// number or a larger one.
 pub fn number_at<'a>(
     found: &ArgMatches<'a>,
     name: &str,

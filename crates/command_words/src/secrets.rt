@@ -1,9 +1,12 @@
 //! Secrets of a command line, which may stand in a file.
 
-ghost use Rattle.std.specs.Prelude.{◌≡◌, ◌≢◌, ◌<◌, ◌≤◌, ◌∷◌, ℕ, List, None, Some, Ok, length, take, replicate, IfOk, IfErr, IfSome, MatchOption};
+ghost use Rattle.std.specs.Prelude.{◌≡◌, ◌≢◌, ◌<◌, ◌≤◌, ◌∷◌, ℕ, List, None, Some, Ok, length, take};
+ghost use Rattle.std.specs.Prelude.{replicate, IfOk, IfErr, IfSome, MatchOption};
 ghost use Rattle.std.specs.Io.KnownBytes.{Consumes, IsAtEnd};
 ghost use Rattle.clap.specs.Matches.{first_value, found_of};
-ghost use Rattle.command_words.specs.Secrets.{IsSecretOf, IsKey, IsNoSecret, IsNoKeySecret, IsWithoutEnd, IsLineOf, GivesSeed, GivesKey, IsReadAs, IsSecretFailure};
+ghost use Rattle.command_words.specs.Secrets.{IsSecretOf, IsKey, IsNoSecret, IsNoKeySecret};
+ghost use Rattle.command_words.specs.Secrets.{IsWithoutEnd, IsLineOf, GivesSeed, GivesKey};
+ghost use Rattle.command_words.specs.Secrets.{IsReadAs, IsSecretFailure};
 
 use crate::bad_line::BadLine;
 use crate::failed::{Failed, file_failed};
@@ -20,14 +23,15 @@ const MOST_SECRET: usize = 67;
 
 /// Where the files of secrets stand.
 pub trait SecretFiles {
-    /// What the file of a name begins with: as many bytes as there is room for, or all of them if these are fewer.
+    /// What the file of a name begins with: as many bytes as there is room for, or all of them if
+    /// these are fewer.
     ghost begins: { Self → ℕ → List ℕ → List ℕ → Type 0 };
 
     /// The file of a name can't be read.
     ghost fails: { Self → List ℕ → Type 0 };
 
-    /// Reads what a file begins with, as many bytes as there is room for or all of them, and answers how many these are; `None`
-    /// if it can't be read.
+    /// Reads what a file begins with, as many bytes as there is room for or all of them, and
+    /// answers how many these are; `None` if it can't be read.
     fn read_start(&self, name: &str, out: &mut [u8]) -> Option<usize>
         ensures within { IfSome result (λ n. n ≤ length out.old) }
         ensures start { MatchOption result (fails self.now name.now)
@@ -47,8 +51,9 @@ impl SecretFiles for HostRuntime {
     }
 }
 
-/// A secret as a command line gives it, so that it needn't stand where other users see it. Its file is read by
-/// [`seed`](Secret::seed) or [`key`](Secret::key), once the whole line was judged: a line that is bad elsewhere opens none.
+/// A secret as a command line gives it, so that it needn't stand where other users see it. Its file
+/// is read by [`seed`](Secret::seed) or [`key`](Secret::key), once the whole line was judged: a
+/// line that is bad elsewhere opens none.
 #[derive(Clone, Copy)]
 pub enum Secret<'a> {
     /// The bytes that the digits on the line encode.
@@ -62,8 +67,9 @@ impl<'a> Secret<'a> {
     ///
     /// # Errors
     ///
-    /// `Fault` with `File` where the file can't be read, or its first 67 bytes are no text; `Value`, with what the option takes,
-    /// where its text without the end of its line isn't 64 hex digits. None where the line has the bytes.
+    /// `Fault` with `File` where the file can't be read, or its first 67 bytes are no text;
+    /// `Value`, with what the option takes, where its text without the end of its line isn't 64 hex
+    /// digits. None where the line has the bytes.
     pub fn seed<F: SecretFiles>(self, files: &F, takes: &'static str) -> Result<[u8; 32], Failure>
         ensures given { GivesSeed (F.begins files.now 67) (F.fails files.now) takes.now
             self.entry result }
@@ -121,14 +127,16 @@ impl Secret<'_> {
 ///
 /// # Errors
 ///
-/// `Value`, with what it takes, where none was given, and where it is neither `@FILE` nor 64 hex digits.
+/// `Value`, with what it takes, where none was given, and where it is neither `@FILE` nor 64 hex
+/// digits.
 pub fn seed_at<'a>(
     found: &ArgMatches<'a>,
     name: &str,
     takes: &'static str,
 ) -> Result<Secret<'a>, BadLine<'a>>
     ensures value { IfOk result (λ secret.
-        MatchOption (first_value (found_of found.now) name.now) ⊥ (λ text. IsSecretOf text secret)) }
+        MatchOption (first_value (found_of found.now) name.now) ⊥
+        (λ text. IsSecretOf text secret)) }
     ensures refused { IfErr result (λ bad. (bad ≡ BadLine.Value takes.entry) ×
         IsNoSecret (first_value (found_of found.now) name.now)) }
 {
@@ -153,7 +161,8 @@ pub fn key_at<'a>(
     takes: &'static str,
 ) -> Result<Secret<'a>, BadLine<'a>>
     ensures value { IfOk result (λ secret.
-        MatchOption (first_value (found_of found.now) name.now) ⊥ (λ text. IsSecretOf text secret)) }
+        MatchOption (first_value (found_of found.now) name.now) ⊥
+        (λ text. IsSecretOf text secret)) }
     ensures not_zero { IfOk result IsKey }
     ensures refused { IfErr result (λ bad. (bad ≡ BadLine.Value takes.entry) ×
         IsNoKeySecret (first_value (found_of found.now) name.now)) }

@@ -1,6 +1,7 @@
 //! Words as values.
 
-ghost use Rattle.std.specs.Prelude.{◌≡◌, ◌≢◌, ◌↔◌, ◌<◌, ◌≤◌, ◌^◌, ◌*◌, length, replicate, SomeIff, IsSome, IfSome, MatchOption, IfOk, Ok, Some, None};
+ghost use Rattle.std.specs.Prelude.{◌≡◌, ◌≢◌, ◌↔◌, ◌<◌, ◌≤◌, ◌^◌, ◌*◌, length, replicate, SomeIff};
+ghost use Rattle.std.specs.Prelude.{IsSome, IfSome, MatchOption, IfOk, Ok, Some, None};
 ghost use Rattle.std.specs.List.{AllPass};
 ghost use Rattle.std.specs.Str.Parse.{IsNumeral, digits_value};
 ghost use Rattle.hex.specs.Hex.{decode_of, is_hex_digit};

@@ -22,7 +22,8 @@ pub record Turned {R W : Type 0} (remaining : R → Option (List ℕ)) (contents
   pub reads : ReadsPiece (PairDoes remaining contents) b turn.piece middle
   pub writes : WentOut remaining contents middle turn.output c
 
--- What so many turns did after which the engine goes on: what was read and written, and what is so of both and of where the engine stands.
+-- What so many turns did after which the engine goes on: what was read and written, and what is so
+-- of both and of where the engine stands.
 pub record SoFar {R W S : Type 0} (remaining : R → Option (List ℕ)) (contents : W → Option (List ℕ)) (Holds : List ℕ → List ℕ → S → Type 0) (a : Pair R W)
     (count : ℕ) (state : S) (b : Pair R W) : Type 0 where
   pub read : List ℕ

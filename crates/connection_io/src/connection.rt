@@ -7,26 +7,28 @@ use crate::pieces::{ReadFailed, WriteFailed};
 
 /// A reader and a writer in one, whose calls stand in the order in which they were made.
 ///
-/// Code over any connection can answer that a read or a write failed only where one did: what a call did is
-/// known from the call alone.
+/// Code over any connection can answer that a read or a write failed only where one did: what a
+/// call did is known from the call alone.
 pub trait Connection {
     /// Relates the connection before a call, what came of the call, and the connection after it.
     ghost does: { Self → Call → Self → Type 0 } = { λ _ _ _. ⊤ };
 
-    /// Reads into the start of the buffer, and answers how many bytes came. 0 is the end, where there is room.
+    /// Reads into the start of the buffer, and answers how many bytes came. 0 is the end, where
+    /// there is room.
     fn read(&mut self, buffer: &mut [u8]) -> Result<usize, ReadFailed>
         ensures within { IfOk result (λ n. n ≤ length buffer.new) }
         ensures did { does self.old (read_call result buffer.new) self.new };
 
-    /// Writes some bytes from their start on, and answers how many were taken: one at least, where there are any.
+    /// Writes some bytes from their start on, and answers how many were taken: one at least, where
+    /// there are any.
     fn write(&mut self, bytes: &[u8]) -> Result<usize, WriteFailed>
         ensures within { IfOk result (λ n. n ≤ length bytes.now) }
         ensures some { IfOk result (λ n. 0 < length bytes.now → 0 < n) }
         ensures did { does self.old (write_call result bytes.now) self.new };
 }
 
-/// Reads a piece into the start of the buffer, in one read, and answers how many bytes it has. 0 is the end, where
-/// there is room.
+/// Reads a piece into the start of the buffer, in one read, and answers how many bytes it has. 0 is
+/// the end, where there is room.
 ///
 /// # Errors
 ///
@@ -43,7 +45,8 @@ pub fn receive<C: Connection>(connection: &mut C, buffer: &mut Vec<u8>) -> Resul
 ///
 /// # Errors
 ///
-/// `WriteFailed` exactly when a write failed: a prefix of the bytes was written before it, and nothing after.
+/// `WriteFailed` exactly when a write failed: a prefix of the bytes was written before it, and
+/// nothing after.
 pub fn send<C: Connection>(connection: &mut C, bytes: &[u8]) -> Result<(), WriteFailed>
     ensures all { OnOk result (Sends C.does connection.old bytes.now connection.new) }
     ensures prefix { OnErr result ((n : ℕ) × (n < length bytes.now)

@@ -1,5 +1,5 @@
-//! One read of a piece, and a write of all of some bytes. Every read error, every write error and every write of
-//! 0 bytes is a fault.
+//! One read of a piece, and a write of all of some bytes. Every read error, every write error and
+//! every write of 0 bytes is a fault.
 
 ghost use Rattle.std.specs.Prelude.{◌≡◌, ◌≤◌, ◌<◌, ℕ, IsErrOf, length, take, IfOk, OnOk, OnErr};
 ghost use Rattle.std.specs.Io.KnownBytes.{Appends, Consumes, IsAtEnd, Keeps};

@@ -1,4 +1,5 @@
--- How much is held after a connection was put into a place, and the one with the most was taken away.
+-- How much is held after a connection was put into a place, and the one with the most was taken
+-- away.
 use Rattle.std.proofs.Common.{◌≡◌, ◌<◌, ◌≤◌, ◌+◌, ◌-◌, ℕ, List, length, Option, None, Some, get_or, set, sym, ap, subst, ◌∙◌, arith}
 use Rattle.std.proofs.lemmas.List.{get_or-set_same, get_or_default, length-set}
 use Rattle.std.proofs.lemmas.List.Sums.{sum_by-set}
@@ -9,7 +10,8 @@ use Rattle.connection_table.specs.Places.{connection_at, held_bytes, all_held}
 sum_of : (s all filled after own u free size : ℕ) → s ≡ all → filled + free ≡ all + own → free ≡ 0 → after + size ≡ filled + 0 → size ≡ u → own ≤ u → s - (u - own) ≡ after
 sum_of s all filled after own u free size a b c d e f = omega arith
 
--- the most that is held for one is no less than what is held for a connection that was put into a place
+-- the most that is held for one is no less than what is held for a connection that was put into a
+-- place
 pub largest_is_no_less : (places : List (Option Connection)) (place : ℕ) (c : Connection) (best : ℕ) (x : Option Connection) → place < length places
     → IsFirstMaxByKey held_bytes (set places place (Some c)) (length (set places place (Some c))) best
     → x ≡ get_or (set places place (Some c)) best x → c.held ≤ held_bytes x
@@ -21,7 +23,8 @@ largest_is_no_less places place c best x within max is =
     subst (λ (o : Option Connection). held_bytes o ≤ held_bytes (get_or filled best x)) (get_or-set_same places place (Some c) x within) le in
     subst (λ (o : Option Connection). c.held ≤ held_bytes o) (sym is) own
 
--- what is held for all after a connection was put into a free place and the one with the most was taken away
+-- what is held for all after a connection was put into a free place and the one with the most was
+-- taken away
 pub sum_without_largest : (places : List (Option Connection)) (place : ℕ) (c : Connection) (best : ℕ) (x : Option Connection) (s : ℕ) → place < length places
     → connection_at places place ≡ None
     → IsFirstMaxByKey held_bytes (set places place (Some c)) (length (set places place (Some c))) best

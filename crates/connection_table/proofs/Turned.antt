@@ -8,7 +8,8 @@ use Rattle.connection_table.specs.declared.connection.TurnResult.{TurnResult}
 use Rattle.connection_table.specs.declared.connection.TurnResult.TheVariants.{Busy, PutOff, Waits, Over, Closed}
 use Rattle.connection_table.specs.declared.report.Closing.TheVariants.{Idle}
 
--- how much is held is noted right after it was noted right and neither it nor what it counts has changed
+-- how much is held is noted right after it was noted right and neither it nor what it counts has
+-- changed
 pub stays_noted : (core : Core) (before noted after : Connection) → noted ≡ record before { held = held_by (session_of core.sessions before.id) before.state }
     → after.held ≡ noted.held → after.id ≡ noted.id → after.state ≡ noted.state → after.held ≡ held_by (session_of core.sessions after.id) after.state
 stays_noted core before noted after is held id state =

@@ -9,8 +9,8 @@ abbrev pub is_done : Option ReplyHead → Bool
 is_done None = false
 is_done (Some reply) = nat_eq reply.kind 0x87
 
--- The version whose draft a session has edited last, after a turn on the draft of a version: that one, if the turn replied Done and
--- published nothing.
+-- The version whose draft a session has edited last, after a turn on the draft of a version: that
+-- one, if the turn replied Done and published nothing.
 abbrev pub edited_after : Option ℕ → Option ReplyHead → Option ℕ → ℕ → Option ℕ
 edited_after before reply published version = cond (is_done reply && is_none published) (Some version) before
 

@@ -35,7 +35,8 @@ abbrev pub noted : Bool → Bool → Option Connection → Option Connection
 noted readable writable None = None
 noted readable writable (Some c) = Some (record c { readable = c.readable || readable; writable = c.writable || writable; queued = true })
 
--- a connection was taken away: of those for which most is held it had the first place, which is free now
+-- a connection was taken away: of those for which most is held it had the first place, which is
+-- free now
 pub record LosesLargest (before : List (Option Connection)) (c : Connection) (after : List (Option Connection)) : Type 0 where
   pub place : ℕ
   pub largest : IsFirstMaxByKey held_bytes before (length before) place

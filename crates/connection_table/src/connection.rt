@@ -2,7 +2,7 @@
 
 ghost use Rattle.std.specs.Prelude.{◌≡◌, ◌≢◌, ◌↔◌, None, IfOk, IsTrue, length, true, false};
 ghost use Rattle.server_core.specs.Cores.{session_of};
-ghost use Rattle.service_core.specs.Runs.{OthersStay};
+ghost use Rattle.connection_turns.specs.Runs.{OthersStay};
 ghost use Rattle.connection_table.specs.Holding.{held_by};
 ghost use Rattle.connection_table.specs.Judging.{GoesOn, HasMore, IsIdle, due_of};
 ghost use Rattle.connection_table.specs.Ending.{EndsWriting, IsQuiet};
@@ -11,15 +11,17 @@ use crate::device::{Device, Saver};
 use crate::report::{Closing, RunFault};
 use crate::saved_server::SavedServer;
 use crate::watch::Watch;
+use connection_turns::{ConnectionState, Fault, PIECE_LEN, Served, turn};
 use mio::net::TcpStream;
-use service_core::{ConnectionState, Fault, PIECE_LEN, Served, turn};
 use std::io::{ErrorKind, Read};
 use std::net::{Shutdown, SocketAddr};
 
-/// How many milliseconds a connection that is over is read from, so that the last reply is not lost with it.
+/// How many milliseconds a connection that is over is read from, so that the last reply is not lost
+/// with it.
 const LINGER: u64 = 2_000;
 
-/// A socket, and what is kept for it. A flag is put out when a call would have waited, and set by an event.
+/// A socket, and what is kept for it. A flag is put out when a call would have waited, and set by
+/// an event.
 #[derive(Drop)]
 pub struct Connection {
     /// The socket.
@@ -36,7 +38,8 @@ pub struct Connection {
     pub readable: bool,
     /// There may be room to write.
     pub writable: bool,
-    /// All was written, and the writing was ended: until this moment what still comes is read and forgotten.
+    /// All was written, and the writing was ended: until this moment what still comes is read and
+    /// forgotten.
     pub lingers: Option<u64>,
     /// How many bytes its session keeps of an unfinished frame, and how many are owed.
     pub held: usize,
@@ -131,8 +134,8 @@ impl Connection {
         }
     }
 
-    /// Makes a turn: one read at most, one frame, unless it is put off, and one write, or, where all was written, a read that is
-    /// forgotten. No other connection's session changes.
+    /// Makes a turn: one read at most, one frame, unless it is put off, and one write, or, where
+    /// all was written, a read that is forgotten. No other connection's session changes.
     ///
     /// # Errors
     ///
@@ -166,7 +169,8 @@ impl Connection {
         }
     }
 
-    /// What is to be done with it after a turn: one that would go on is closed exactly where it is idle.
+    /// What is to be done with it after a turn: one that would go on is closed exactly where it is
+    /// idle.
     pub fn close_if_idle(&self, now: u64, idle: u64, outcome: TurnResult) -> TurnResult
         ensures idle { GoesOn outcome → IsIdle self.now now idle →
             result ≡ TurnResult.Closed Closing.Idle }
@@ -180,7 +184,8 @@ impl Connection {
         }
     }
 
-    /// Ends the writing after a turn if the service stops and nothing of the connection is left to be served.
+    /// Ends the writing after a turn if the service stops and nothing of the connection is left to
+    /// be served.
     pub fn retired(&mut self, now: u64, stops: bool, outcome: TurnResult) -> TurnResult
         ensures serves { stops ≡ false → (self.new ≡ self.old) × (result ≡ outcome) }
         ensures over { (GoesOn outcome → ⊥) → (self.new ≡ self.old) × (result ≡ outcome) }

@@ -4,9 +4,9 @@ ghost use Rattle.std.specs.Prelude.{◌≡◌, ◌<◌, ◌+◌, ◌^◌, ℕ, I
 
 use crate::tallies::Tallies;
 use crate::watch::Watch;
+use connection_turns::{AppendFailed, Outside, SaveFailed, Stop};
 use lane_kernels::Lanes;
 use mio::net::TcpStream;
-use service_core::{AppendFailed, Outside, SaveFailed, Stop};
 use service_status::micros_since;
 use service_watch::Counted;
 use std::io::{Error, ErrorKind, Read, Write};
@@ -18,11 +18,13 @@ pub trait Saver {
     /// The version that is there after a crash.
     ghost saved: { Self → ℕ };
 
-    /// Appends a publication before it is made: the store's draft, as the next version, is there after a crash.
+    /// Appends a publication before it is made: the store's draft, as the next version, is there
+    /// after a crash.
     ///
     /// # Errors
     ///
-    /// Where it could not be appended: nothing of it is left, or, if that can't be had either, a part may be.
+    /// Where it could not be appended: nothing of it is left, or, if that can't be had either, a
+    /// part may be.
     fn append(&mut self, rt: &HostRuntime, store: &Store<Lanes>) -> Result<(), AppendFailed>
         requires saved { saved self.old ≡ store.now.version }
         requires draft { store.now.marked ≡ true }
@@ -40,7 +42,8 @@ pub trait Saver {
         ensures ok { OnOk result (saved self.new ≡ store.now.version) };
 }
 
-/// The disk, and the socket of a connection. A flag is put out when a call would have waited, and set by an event.
+/// The disk, and the socket of a connection. A flag is put out when a call would have waited, and
+/// set by an event.
 #[derive(Drop)]
 pub struct Device<'a, S> {
     /// The runtime.

@@ -1,6 +1,6 @@
 //! How a service ends, and why a connection is closed.
 
-use service_core::Fault;
+use connection_turns::Fault;
 use service_watch::Cause;
 use std::io;
 use thiserror::Error;

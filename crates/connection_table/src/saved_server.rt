@@ -2,16 +2,17 @@
 
 ghost use Rattle.std.specs.Prelude.{◌≡◌, ◌↔◌, IsErrOf, IsSome, OnOk, OnErr};
 ghost use Rattle.server_core.specs.Cores.{session_of};
-ghost use Rattle.service_core.specs.Runs.{DoesToCore, Opens, Closes, Undrafts};
+ghost use Rattle.connection_turns.specs.Runs.{DoesToCore, Opens, Closes, Undrafts};
 
 use crate::device::Saver;
 use crate::tallies::Tallies;
 use lane_kernels::Lanes;
 use server_core::{ServerCore, SessionError};
 
-/// A server whose current version is there after a crash, and what writes its publications down. A turn takes it and gives
-/// it back, unless a publication may be there in part or without having been made: then there is none with which another
-/// turn could be made, and nothing is written any more.
+/// A server whose current version is there after a crash, and what writes its publications down. A
+/// turn takes it and gives it back, unless a publication may be there in part or without having
+/// been made: then there is none with which another turn could be made, and nothing is written any
+/// more.
 #[derive(Drop)]
 pub struct SavedServer<S: Saver> {
     /// The server.

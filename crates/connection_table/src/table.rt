@@ -1,17 +1,20 @@
 //! The places of connections, and what is held for them.
 
-ghost use Rattle.std.specs.Prelude.{◌≡◌, ◌≢◌, ◌≤◌, ◌<◌, ◌↔◌, ℕ, None, Some, IsTrue, IsSome, IsSomeAnd, IfSome, IfNone, IfOk, option_map, false, length, replicate, slice_set};
+ghost use Rattle.std.specs.Prelude.{◌≡◌, ◌≢◌, ◌≤◌, ◌<◌, ◌↔◌, ℕ, None, Some, IsTrue, IsSome};
+ghost use Rattle.std.specs.Prelude.{IsSomeAnd, IfSome, IfNone, IfOk, option_map, false, length};
+ghost use Rattle.std.specs.Prelude.{replicate, slice_set};
 ghost use Rattle.std.specs.List.{IsFirstMaxByKey};
 ghost use Rattle.connection_table.specs.Drafting.{editor_count, edits};
 ghost use Rattle.connection_table.specs.Judging.{due_of};
-ghost use Rattle.connection_table.specs.Places.{connection_at, held_bytes, owed_bytes, all_held, all_owed, noted, LosesLargest, open_count};
+ghost use Rattle.connection_table.specs.Places.{connection_at, held_bytes, owed_bytes, all_held};
+ghost use Rattle.connection_table.specs.Places.{all_owed, noted, LosesLargest, open_count};
 ghost use Rattle.connection_table.specs.Watching.{is_of, peer_count};
 
 use crate::connection::Connection;
 use std::alloc::{AllocError, Global};
 
-/// A place for each connection that there may be at once. Between two calls no more bytes are held for all of them, of
-/// unfinished frames and of replies that are owed, than is allowed.
+/// A place for each connection that there may be at once. Between two calls no more bytes are held
+/// for all of them, of unfinished frames and of replies that are owed, than is allowed.
 #[derive(Drop)]
 pub struct ConnectionTable {
     /// The connection at each place.
@@ -76,7 +79,8 @@ impl ConnectionTable {
         owed
     }
 
-    /// How many bytes are held for all connections, of unfinished frames and of replies that are owed.
+    /// How many bytes are held for all connections, of unfinished frames and of replies that are
+    /// owed.
     pub fn held(&self) -> usize
         ensures { result ≡ all_held self.now.connections.items }
     {
@@ -146,7 +150,8 @@ impl ConnectionTable {
         None
     }
 
-    /// The moment at which something is to be done for the connection at a place even if no event comes.
+    /// The moment at which something is to be done for the connection at a place even if no event
+    /// comes.
     pub fn due_at(&self, place: usize, idle: u64) -> Option<u64>
         ensures { result ≡ option_map (due_of idle)
             (connection_at self.now.connections.items place) }
@@ -157,8 +162,8 @@ impl ConnectionTable {
         }
     }
 
-    /// Notes that the connection at a place will have its turn, and whether its socket may be read or written. Answers whether
-    /// there is one that was not to have its turn before.
+    /// Notes that the connection at a place will have its turn, and whether its socket may be read
+    /// or written. Answers whether there is one that was not to have its turn before.
     pub fn note(&mut self, place: usize, readable: bool, writable: bool) -> bool
         ensures new { IsTrue result ↔ IsSomeAnd
             (connection_at self.old.connections.items place) (λ c. c.queued ≡ false) }
@@ -195,8 +200,8 @@ impl ConnectionTable {
         self.connections[place].take()
     }
 
-    /// Puts a connection into a free place. If too many bytes are held for all then, the one for which most are held is taken
-    /// away.
+    /// Puts a connection into a free place. If too many bytes are held for all then, the one for
+    /// which most are held is taken away.
     pub fn put(&mut self, place: usize, connection: Connection) -> Option<Connection>
         requires within { place < length self.old.connections.items }
         requires free { connection_at self.old.connections.items place ≡ None }

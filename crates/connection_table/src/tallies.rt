@@ -39,7 +39,8 @@ impl TurnTimes {
 pub struct Tallies {
     /// What was counted of connections.
     pub counts: Counters,
-    /// How long the turns took in which a query was answered, each with those before that put it off.
+    /// How long the turns took in which a query was answered, each with those before that put it
+    /// off.
     pub answered: Histogram,
     /// How long frames waited for the turn in which their reply was made.
     pub waited: Histogram,
@@ -81,8 +82,9 @@ impl Tallies {
         self.counts.add(what, amount);
     }
 
-    /// Notes the reply of a turn, if it made one: counts it, and notes how long its frame had waited, with the turns that put it off,
-    /// and, if it is an answer, how long the turn took, with those.
+    /// Notes the reply of a turn, if it made one: counts it, and notes how long its frame had
+    /// waited, with the turns that put it off, and, if it is an answer, how long the turn took,
+    /// with those.
     pub fn note_turn(&mut self, turn: TurnTimes, reply: Option<ReplyHead>)
         ensures none { reply ≡ None → self.new ≡ self.old }
         ensures counts { IfSome reply (λ r. (events : List Amount) →

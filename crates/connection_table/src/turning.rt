@@ -2,7 +2,7 @@
 
 ghost use Rattle.std.specs.Prelude.{◌≡◌, ◌++◌, ◌∷◌, [], List, None, IfOk, IfSome, false};
 ghost use Rattle.server_core.specs.Cores.{session_of};
-ghost use Rattle.service_core.specs.Runs.{OthersStay};
+ghost use Rattle.connection_turns.specs.Runs.{OthersStay};
 ghost use Rattle.service_watch.specs.Counts.{Amount, IsTally, slot_of};
 ghost use Rattle.connection_table.specs.Holding.{held_by};
 ghost use Rattle.connection_table.specs.Judging.{GoesOn, IsIdle};
@@ -19,7 +19,8 @@ use service_watch::Counted;
 use std::time::Instant;
 
 impl Connection {
-    /// Makes a turn, counts it, and notes what was seen of it. Its moments are those since the start.
+    /// Makes a turn, counts it, and notes what was seen of it. Its moments are those since the
+    /// start.
     ///
     /// # Errors
     ///
@@ -50,8 +51,9 @@ impl Connection {
         Ok((server, outcome))
     }
 
-    /// Notes after a turn how much is held for it, and answers what is to be done with it: one that would go on is closed where it is
-    /// idle, and its writing is ended if the service stops and nothing of it is left to be served.
+    /// Notes after a turn how much is held for it, and answers what is to be done with it: one that
+    /// would go on is closed where it is idle, and its writing is ended if the service stops and
+    /// nothing of it is left to be served.
     pub fn end_turn<S: Saver>(
         &mut self,
         now: u64,

@@ -28,8 +28,8 @@ pub struct Watch {
     pub published: Option<u64>,
     /// The version whose draft its session has edited last, if it has edited any.
     pub edited: Option<u64>,
-    /// When its last turn ended, in microseconds since the start, if that left more to do. If the frame of that turn was put off, this is
-    /// when that frame began to wait.
+    /// When its last turn ended, in microseconds since the start, if that left more to do. If the
+    /// frame of that turn was put off, this is when that frame began to wait.
     pub left_more: Option<u64>,
     /// How many microseconds the turns took that have put its frame off.
     pub spent: u64,
@@ -50,8 +50,8 @@ impl Watch {
         }
     }
 
-    /// The times of a turn that began and ended at these moments, in a round whose events were reported at a moment before; all are in
-    /// microseconds since the start.
+    /// The times of a turn that began and ended at these moments, in a round whose events were
+    /// reported at a moment before; all are in microseconds since the start.
     pub fn times(&self, polled: u64, began: u64, ended: u64) -> TurnTimes
         ensures { result ≡ record {
           waits_since = unwrap_or self.now.left_more polled;
@@ -68,7 +68,8 @@ impl Watch {
         }
     }
 
-    /// Notes since when the frame waits that is at hand after a turn, and how long turns took that have put it off.
+    /// Notes since when the frame waits that is at hand after a turn, and how long turns took that
+    /// have put it off.
     pub fn note_end(&mut self, turn: TurnTimes, outcome: TurnResult)
         ensures put_off { outcome ≡ TurnResult.PutOff →
             (self.new.left_more ≡ Some turn.waits_since) × (self.new.spent ≡ time_of turn) }
@@ -97,7 +98,8 @@ impl Watch {
         }
     }
 
-    /// Notes after a turn on the draft of a version whether its session has edited that: the turn replied Done, and published nothing.
+    /// Notes after a turn on the draft of a version whether its session has edited that: the turn
+    /// replied Done, and published nothing.
     pub fn note_edit(&mut self, version: u64)
         ensures { self.new ≡ record self.old {
           edited = edited_after self.old.edited self.old.reply self.old.published version;

@@ -38,9 +38,11 @@ pub struct Plan {
 // The program's arguments.
 const SIMULATE: CommandText = CommandText {
     name: "simulate",
-    about: "Runs a deployment in one process: a publisher, servers and clients, whose disks and network a seed decides.",
-    example: "Prints a line for each run: its seed, its steps, and what was done. If something is found that must never be, prints what it is, \
-        the last events, and the shortest run that finds it.",
+    about: "Runs a deployment in one process: a publisher, servers and clients, whose disks and \
+        network a seed decides.",
+    example: "Prints a line for each run: its seed, its steps, and what was done. If something is \
+        found that must never be, prints what it is, the last events, and the shortest run that \
+        finds it.",
     arguments: &[
         Argument::Required {
             name: "seed",

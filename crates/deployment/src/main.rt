@@ -1,7 +1,10 @@
-//! A deployment in one process: a publisher, servers and clients, on simulated disks and over a simulated network, all of it decided by
-//! one seed. What must never be is looked for at each step; a seed that finds something is run again in shorter forms.
+//! A deployment in one process: a publisher, servers and clients, on simulated disks and over a
+//! simulated network, all of it decided by one seed. What must never be is looked for at each step;
+//! a seed that finds something is run again in shorter forms.
 //!
 //! Exit statuses: 0 nothing was found, 1 something was, 2 a bad command line, 4 out of memory.
+//!
+//! Its own tests are in tests/deployment, with wrong bodies that it is to find.
 #![tactic(auto)]
 
 mod command_line;

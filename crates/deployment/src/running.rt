@@ -65,7 +65,8 @@ fn go_on(world: &mut World<'_>, round: &mut Round<'_>, until: u64) -> Result<(),
     Ok(())
 }
 
-// Without troubles, all servers come to have the last version, and each client retrieves each record.
+// Without troubles, all servers come to have the last version, and each client retrieves each
+// record.
 fn finish(world: &mut World<'_>) -> Result<(), Broken> {
     world.calm()?;
     for _ in 0..LAST_ROUNDS {

@@ -7,7 +7,8 @@ use std::alloc::{AllocError, Global};
 /// How many changes of a run are tried, one after another.
 const CHANGES: usize = 9;
 
-/// A shorter run that finds something broken, too, if there is one: with fewer machines, with less that goes wrong, with fewer steps.
+/// A shorter run that finds something broken, too, if there is one: with fewer machines, with less
+/// that goes wrong, with fewer steps.
 ///
 /// # Errors
 ///

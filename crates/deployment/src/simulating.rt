@@ -143,7 +143,9 @@ fn say_run(rt: &HostRuntime, run: &Run, ended: &Ended) -> io::Result<()> {
         compared,
     } = ended.counts;
     println!(rt;
-        "seed {seed}: {steps} steps, {retrieved} retrieved, {published} published, {rounds} pushes, {pushed} pushed to, {left} left, {started} started, {power_cuts} power cuts, {compared} compared"
+        "seed {seed}: {steps} steps, {retrieved} retrieved, {published} published, {rounds} \
+            pushes, {pushed} pushed to, {left} left, {started} started, {power_cuts} power cuts, \
+            {compared} compared"
     )
 }
 
@@ -177,6 +179,7 @@ fn say_broken(rt: &HostRuntime, run: &Run, ended: &Ended) -> io::Result<()> {
     } = shorter;
     say_events(rt, &last)?;
     println!(rt;
-        "shortest: --seed {seed} --steps {steps} --servers {servers} --clients {clients}{large}, {troubles:?}"
+        "shortest: --seed {seed} --steps {steps} --servers {servers} --clients {clients}{large}, \
+            {troubles:?}"
     )
 }

@@ -67,7 +67,8 @@ shifted_small w d k h l =
     let room : 2 ^ (w + k) ≤ 2 ^ 30 = pow-le-pow_right (lit< tt) l in
     omega (arith, step, p, room)
 
--- the number that n + 1 digits write ends before bit w n + over exactly when its top digit ends before bit over
+-- the number that n + 1 digits write ends before bit w n + over exactly when its top digit ends
+-- before bit over
 pub top_decides : (w : ℕ) (digits : List ℕ) (n over : ℕ) → All (λ d. d < 2 ^ w) digits → length digits ≡ n + 1 →
     ((slice_index digits n < 2 ^ over → number_of w digits < 2 ^ (w * n + over)) × (2 ^ over ≤ slice_index digits n → 2 ^ (w * n + over) ≤ number_of w digits))
 unfolding number_of

@@ -50,7 +50,8 @@ UnusedSlotsAreZero = (l : Shape) (records : List (List ℕ)) (r j : ℕ) → r <
 abbrev pub IsPlaceOf : Shape → ℕ → ℕ → ℕ → Type 0
 IsPlaceOf l i r j = (j ≡ column_of l i) × (first_row l i ≤ r) × (r < first_row l i + digits_per_record l)
 
--- with another record i the digit matrix has its digits in its place, and all other entries as before
+-- with another record i the digit matrix has its digits in its place, and all other entries as
+-- before
 pub record RecordChange (l : Shape) (records : List (List ℕ)) (i : ℕ) (bytes : List ℕ) : Type 0 where
   pub here : (d : ℕ) → d < digits_per_record l →
       entry (digit_matrix l (slice_set records i bytes)) (first_row l i + d) (column_of l i) ≡ digit l.width (number_of 8 bytes) d
@@ -62,7 +63,8 @@ abbrev pub ReplacedRecordChangesItsPlace : Type 0
 ReplacedRecordChangesItsPlace = (l : Shape) (records : List (List ℕ)) (i : ℕ) (bytes : List ℕ) →
     IsShape l → i < l.count → i < length records → RecordChange l records i bytes
 
--- an ordinary matrix of digits leaves the parts of a query few, so an ordinary layout is judged by its rows alone
+-- an ordinary matrix of digits leaves the parts of a query few, so an ordinary layout is judged by
+-- its rows alone
 abbrev pub OrdinaryPartsAreFew : Type 0
 OrdinaryPartsAreFew = (l : Shape) → HasWidth l → HasRecord l → digit_rows l ≤ ordinary_side → part_words l ≤ 4128768
 
@@ -74,7 +76,8 @@ WideStoreHasRoom = (l : Shape) → IsLayout l → digit_rows l * digit_cols l �
 abbrev pub DigitsAreSmall : Type 0
 DigitsAreSmall = (w number t : ℕ) → digit w number t < 2 ^ w
 
--- a slot that a record fills: the slot has room for the record, and two bytes can write the record's length
+-- a slot that a record fills: the slot has room for the record, and two bytes can write the
+-- record's length
 pub record IsFilledBy (slot bytes : List ℕ) : Type 0 where
   pub fits : length bytes + 2 ≤ length slot
   pub short : length bytes < 2 ^ 16

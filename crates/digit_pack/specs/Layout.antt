@@ -7,8 +7,8 @@ use Rattle.matrix_u32.specs.Matrix.{WordMatrix, matrix_of}
 use Rattle.lane_kernels.specs.Digit.{digit}
 use Rattle.digit_pack.specs.Digits.{number_of, digits_of}
 
--- a matrix of at most `side` rows and as many columns; digits of `width` bits; records of `record_len` bytes, `groups` of them to
--- a column; `count` records
+-- a matrix of at most `side` rows and as many columns; digits of `width` bits; records of
+-- `record_len` bytes, `groups` of them to a column; `count` records
 pub record Shape : Type 0 where
   pub side : ℕ
   pub width : ℕ
@@ -106,8 +106,8 @@ pub record IsRecord (l : Shape) (bytes : List ℕ) : Type 0 where
 abbrev pub HasWidth : Shape → Type 0
 HasWidth l = (6 ≤ l.width) × (l.width ≤ 10)
 
--- in a wide matrix of at most 9 bits: an answer's noise is a sum over a row, and over so many columns it would pass half of
--- delta with digits of 10 bits
+-- in a wide matrix of at most 9 bits: an answer's noise is a sum over a row, and over so many
+-- columns it would pass half of delta with digits of 10 bits
 abbrev pub HasRoomForNoise : Shape → Type 0
 HasRoomForNoise l = (l.side ≤ ordinary_side) ⊎ (l.width ≤ 9)
 
@@ -115,11 +115,13 @@ HasRoomForNoise l = (l.side ≤ ordinary_side) ⊎ (l.width ≤ 9)
 abbrev pub HasRecord : Shape → Type 0
 HasRecord l = (1 ≤ l.record_len) × (l.record_len ≤ 256)
 
--- how many words the parts of a query have, where each digit of a record is asked for by one word for each row
+-- how many words the parts of a query have, where each digit of a record is asked for by one word
+-- for each row
 abbrev pub part_words : Shape → ℕ
 part_words l = digits_per_record l * digit_rows l
 
--- a record or more to a column, of as many digits as the side has at most, and as many words as a frame has room for
+-- a record or more to a column, of as many digits as the side has at most, and as many words as a
+-- frame has room for
 abbrev pub HasGroups : Shape → Type 0
 HasGroups l = (1 ≤ l.groups) × (digit_rows l ≤ l.side) × (part_words l ≤ 4128768)
 

@@ -7,16 +7,19 @@ use Rattle.std.specs.Int.{w16, to_le_bytes, from_le_bytes}
 unfoldable pub is_slotted : ℕ → Bool
 is_slotted form = (form == 2) || (form == 130)
 
--- A form that there is, for records of so many bytes. In forms 1 and 129 records have these bytes and no others; in forms 2 and
--- 130 these are the bytes of a slot, which has two at least. The digit matrix of forms 129 and 130 is a wide one.
+-- A form that there is, for records of so many bytes. In forms 1 and 129 records have these bytes
+-- and no others; in forms 2 and 130 these are the bytes of a slot, which has two at least. The
+-- digit matrix of forms 129 and 130 is a wide one.
 unfoldable pub is_form : ℕ → ℕ → Bool
 is_form form record_len = (form == 1) || ((form == 129) || (is_slotted form && nat_le 2 record_len))
 
--- the slot of so many bytes that holds a record: the record's length in two bytes, the lower one first; the record; zeros
+-- the slot of so many bytes that holds a record: the record's length in two bytes, the lower one
+-- first; the record; zeros
 abbrev pub slot_of : ℕ → List ℕ → List ℕ
 slot_of len bytes = to_le_bytes w16 (length bytes) ++ (bytes ++ replicate (len - (length bytes + 2)) 0)
 
--- whether bytes are the slot of a record: the length that they begin with leaves room for it, and zeros follow
+-- whether bytes are the slot of a record: the length that they begin with leaves room for it, and
+-- zeros follow
 unfoldable pub is_slot : List ℕ → Bool
 is_slot slot =
     nat_le (from_le_bytes w16 (take 2 slot) + 2) (length slot)

@@ -2,7 +2,8 @@
 
 ghost use Rattle.std.specs.Prelude.{◌≡◌, ◌+◌, ◌*◌, ◌<◌, ◌≤◌, All, IfOk, length, slice_set};
 ghost use Rattle.digit_pack.specs.Columns.{WritesColumn};
-ghost use Rattle.digit_pack.specs.Layout.{digit_rows, digit_cols, digit_matrix, record_at, records_in};
+ghost use Rattle.digit_pack.specs.Layout.{digit_rows, digit_cols, digit_matrix, record_at};
+ghost use Rattle.digit_pack.specs.Layout.{records_in};
 
 use crate::layout::{Layout, pack};
 use crate::store::DigitStore;
@@ -44,11 +45,11 @@ pub fn write_digits<S: DigitStore>(digits: &mut S, first: usize, col: usize, wri
     }
 }
 
-/// The digit matrix of records that stand one after another in `bytes`, kept in a store that has room for it. Only refused
-/// memory gives an `Err`.
+/// The digit matrix of records that stand one after another in `bytes`, kept in a store that has
+/// room for it. Only refused memory gives an `Err`.
 ///
-/// The records of a group, which have their rows in common, are written one after another, so that these rows stay near
-/// the processor.
+/// The records of a group, which have their rows in common, are written one after another, so that
+/// these rows stay near the processor.
 pub fn digits_of_records<S: DigitStore>(
     alloc: Global,
     layout: &Layout,

@@ -1,4 +1,5 @@
-//! The forms of a store: whether its records have one length, and how many rows and columns its digit matrix may have.
+//! The forms of a store: whether its records have one length, and how many rows and columns its
+//! digit matrix may have.
 
 ghost use Rattle.std.specs.Prelude.{◌≡◌};
 ghost use Rattle.digit_pack.specs.Layout.{is_wide};
@@ -19,7 +20,8 @@ pub fn is_slotted(form: u16) -> bool
     form == 2 || form == 130
 }
 
-/// Whether there is such a form, for records of so many bytes: 1 and 129; 2 and 130 if a record has two bytes at least.
+/// Whether there is such a form, for records of so many bytes: 1 and 129; 2 and 130 if a record has
+/// two bytes at least.
 #[tactic(auto, unfolding(crate::specs::Slots::is_form))]
 pub fn is_form(form: u16, record_len: u16) -> bool
     ensures { result ≡ is_form form record_len }

@@ -6,13 +6,12 @@ ghost use Rattle.matrix_u32.specs.Sum.{list_of};
 ghost use Rattle.digit_pack.specs.Held.{HoldsRecord, record_in_digits};
 ghost use Rattle.digit_pack.specs.Layout.{digit_rows, digit_cols};
 
+use crate::buffers::digit_buffer;
 use crate::layout::{Layout, unpack};
 use crate::store::DigitStore;
 
-/// How many digits a record has at most: 256 bytes in digits of 6 bits.
-const MOST_DIGITS: usize = 342;
-
-/// Writes the bytes of record i, as the digits have them, into `out`, whatever it held. It takes no memory.
+/// Writes the bytes of record i, as the digits have them, into `out`, whatever it held. It takes no
+/// memory.
 pub fn copy_record<S: DigitStore>(layout: &Layout, digits: &S, i: usize, out: &mut [u8])
     requires rows { (S.digits digits.now).rows ≡ digit_rows layout.now }
     requires cols { (S.digits digits.now).cols ≡ digit_cols layout.now }
@@ -21,17 +20,12 @@ pub fn copy_record<S: DigitStore>(layout: &Layout, digits: &S, i: usize, out: &m
     requires room { length out.old ≡ layout.now.record_len }
     ensures { out.new ≡ record_in_digits layout.now (S.digits digits.now) i }
 {
-    let mut room = digit_room();
+    let mut room = digit_buffer();
     let (first, col) = layout.place(i);
     let packed = &mut room[..layout.digits_per_record()];
     read_digits(digits, first, col, packed);
     // The digits are a record's: no refusal is left.
     unpack(layout, packed, out).unwrap();
-}
-
-// Room for the digits of a record. They are not said, which keeps them out of the proofs.
-fn digit_room() -> [u32; MOST_DIGITS] {
-    [0; MOST_DIGITS]
 }
 
 // The digits of a column, from row `first` down: one for each place of `out`.

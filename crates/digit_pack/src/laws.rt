@@ -1,5 +1,5 @@
-//! Laws of digits and layouts, over the definitions alone. A caller that calls one of these functions has
-//! its law at hand in its proof; the call costs nothing.
+//! Laws of digits and layouts, over the definitions alone. A caller that calls one of these
+//! functions has its law at hand in its proof; the call costs nothing.
 
 ghost use Rattle.digit_pack.specs.Held.{DigitsHoldTheirRecords};
 ghost use Rattle.digit_pack.specs.Laws.{
@@ -52,12 +52,14 @@ pub fn unused_slots_are_zero()
     ensures { UnusedSlotsAreZero }
 {}
 
-/// Another record in the place of record i changes its digits, and no other entry of the digit matrix.
+/// Another record in the place of record i changes its digits, and no other entry of the digit
+/// matrix.
 pub fn replaced_record_changes_its_place()
     ensures { ReplacedRecordChangesItsPlace }
 {}
 
-/// An ordinary layout is judged by its rows and columns alone: the parts of a query are always few enough.
+/// An ordinary layout is judged by its rows and columns alone: the parts of a query are always few
+/// enough.
 pub fn ordinary_parts_are_few()
     ensures { OrdinaryPartsAreFew }
 {}
@@ -72,13 +74,14 @@ pub fn digits_are_small()
     ensures { DigitsAreSmall }
 {}
 
-/// `read_slot` accepts exactly the slots that `fill_slot` writes: a record is read from a slot where it fills the slot,
-/// and there alone.
+/// `read_slot` accepts exactly the slots that `fill_slot` writes: a record is read from a slot
+/// where it fills the slot, and there alone.
 pub fn slots_are_those_filled()
     ensures { SlotsAreThoseFilled }
 {}
 
-/// A digit matrix holds the records that it was made of: they are read out of it as they were, bytes of a record's length each.
+/// A digit matrix holds the records that it was made of: they are read out of it as they were,
+/// bytes of a record's length each.
 pub fn digits_hold_their_records()
     ensures { DigitsHoldTheirRecords }
 {}

@@ -1,6 +1,7 @@
 //! Where the digits of records stand.
 
-ghost use Rattle.std.specs.Prelude.{◌≡◌, ◌+◌, ◌*◌, ◌/◌, ◌%◌, ◌^◌, ◌<◌, ◌≤◌, IfOk, IfErr, MatchResult, length, slice_index, All};
+ghost use Rattle.std.specs.Prelude.{◌≡◌, ◌+◌, ◌*◌, ◌/◌, ◌%◌, ◌^◌, ◌<◌, ◌≤◌, IfOk, IfErr};
+ghost use Rattle.std.specs.Prelude.{MatchResult, length, slice_index, All};
 ghost use Rattle.lane_kernels.specs.Digit.{digit};
 ghost use Rattle.digit_pack.specs.Digits.{number_of};
 ghost use Rattle.digit_pack.specs.Layout.{
@@ -37,8 +38,8 @@ pub const MAX_COLS: usize = 4096;
 /// The most rows of a wide digit matrix, and the most columns.
 pub const WIDE_SIDE: usize = 32_768;
 
-/// The most words that the parts of a query have: one for each digit of a record and each row. So a frame has room for
-/// a query. All ordinary layouts have fewer.
+/// The most words that the parts of a query have: one for each digit of a record and each row. So a
+/// frame has room for a query. All ordinary layouts have fewer.
 pub const MAX_PART_WORDS: usize = 4_128_768;
 
 /// Why there is no such layout: the first cause in the order of the variants.
@@ -50,12 +51,12 @@ pub enum LayoutError {
     /// A record has 1 to [`MAX_RECORD_LEN`] bytes.
     #[error("a record has 1 to 256 bytes")]
     BadRecord,
-    /// A column holds at least one record, and its records at most [`MAX_ROWS`] digits, or [`WIDE_SIDE`] in a wide
-    /// layout; the parts of a query have at most [`MAX_PART_WORDS`] words.
+    /// A column holds at least one record, and its records at most [`MAX_ROWS`] digits, or
+    /// [`WIDE_SIDE`] in a wide layout; the parts of a query have at most [`MAX_PART_WORDS`] words.
     #[error("a column holds at least one record and at most 4096 digits")]
     BadGroups,
-    /// There is at least one record, and there are at most [`MAX_COLS`] columns of them, or [`WIDE_SIDE`] in a wide
-    /// layout.
+    /// There is at least one record, and there are at most [`MAX_COLS`] columns of them, or
+    /// [`WIDE_SIDE`] in a wide layout.
     #[error("there are 1 to 4096 columns of records")]
     BadCount,
 }
@@ -65,8 +66,9 @@ pub enum LayoutError {
 #[error("the digits set a bit past the record's last byte")]
 pub struct BadDigits;
 
-/// How many rows and columns there may be, how many bits a digit has, how many bytes a record, how many records stand in a
-/// column, and how many there are: always within the limits. A contract sees it as a `Shape`.
+/// How many rows and columns there may be, how many bits a digit has, how many bytes a record, how
+/// many records stand in a column, and how many there are: always within the limits. A contract
+/// sees it as a `Shape`.
 #[derive(Clone, Copy, Debug, PartialEq, Eq)]
 pub struct Layout {
     side: usize,
@@ -108,9 +110,9 @@ impl Model for Layout {
 }
 
 impl Layout {
-    /// The ordinary layout of these sizes: digits of `width` bits, records of `record_len` bytes, `groups` records to
-    /// a column, `count` records. It is accepted exactly within the limits; else the first cause is named,
-    /// in the order of [`LayoutError`].
+    /// The ordinary layout of these sizes: digits of `width` bits, records of `record_len` bytes,
+    /// `groups` records to a column, `count` records. It is accepted exactly within the limits;
+    /// else the first cause is named, in the order of [`LayoutError`].
     pub fn new(
         width: u32,
         record_len: usize,
@@ -124,8 +126,9 @@ impl Layout {
         Layout::within(MAX_ROWS, width, record_len, groups, count)
     }
 
-    /// The layout of these sizes in a form, likewise: a wide one in the forms above 128, else an ordinary one. In a wide
-    /// layout digits have at most 9 bits: with 10, the noise over so many columns would not stay small.
+    /// The layout of these sizes in a form, likewise: a wide one in the forms above 128, else an
+    /// ordinary one. In a wide layout digits have at most 9 bits: with 10, the noise over so many
+    /// columns would not stay small.
     pub fn of_form(
         form: u16,
         width: u32,
@@ -242,7 +245,8 @@ impl Layout {
         (self.count + self.groups - 1) / self.groups
     }
 
-    /// The first row and the column of record i. Its digits stand in this column, from this row down.
+    /// The first row and the column of record i. Its digits stand in this column, from this row
+    /// down.
     pub fn place(&self, i: usize) -> (usize, usize)
         requires { i < self.now.count }
         ensures value { result ≡ (first_row self.now i, column_of self.now i) }
@@ -252,8 +256,8 @@ impl Layout {
     }
 }
 
-/// Writes the digits of a record into `out`, least significant first. Linear in the record's bits, without
-/// memory.
+/// Writes the digits of a record into `out`, least significant first. Linear in the record's bits,
+/// without memory.
 pub fn pack(layout: &Layout, bytes: &[u8], out: &mut [u32])
     requires bytes { length bytes.now ≡ layout.now.record_len }
     requires room { length out.old ≡ digits_per_record layout.now }
@@ -289,8 +293,8 @@ fn digit_window(w: u32, digits: &[u32], first: usize) -> u32
     low + (middle << w) + (high << (w * 2))
 }
 
-/// Writes the bytes of the record that digits write into `out`. `BadDigits` exactly when they set a bit
-/// past the record's last byte; `out` is then unchanged.
+/// Writes the bytes of the record that digits write into `out`. `BadDigits` exactly when they set a
+/// bit past the record's last byte; `out` is then unchanged.
 pub fn unpack(layout: &Layout, digits: &[u32], out: &mut [u8]) -> Result<(), BadDigits>
     requires digits { length digits.now ≡ digits_per_record layout.now }
     requires small { All (λ d. d < 2 ^ layout.now.width) digits.now }

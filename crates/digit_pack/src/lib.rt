@@ -1,14 +1,15 @@
-//! Where the digits of records stand in a matrix, how records and words are written in digits, and the
-//! stores that keep a matrix of digits.
+//! Where the digits of records stand in a matrix, how records and words are written in digits, and
+//! the stores that keep a matrix of digits.
 //!
-//! A digit has w bits, w in 6..=10. A record is the whole number of its bytes, least significant first,
-//! written in digits of w bits, least significant first; `groups` records stand below one another in a
-//! column. `specs/` defines all of it; the functions of [`laws`] have empty bodies, and their contracts
-//! are the laws of these definitions.
+//! A digit has w bits, w in 6..=10. A record is the whole number of its bytes, least significant
+//! first, written in digits of w bits, least significant first; `groups` records stand below one
+//! another in a column. `specs/` defines all of it; the functions of [`laws`] have empty bodies,
+//! and their contracts are the laws of these definitions.
 //!
-//! Its tests are in `scheme_tests::digits`.
+//! Its tests are in `tests_scheme::digits`.
 #![tactic(auto)]
 
+mod buffers;
 mod filling;
 mod forms;
 mod holding;
@@ -20,6 +21,7 @@ mod slots;
 mod store;
 mod widening;
 
+pub use buffers::{MOST_DIGITS, digit_buffer, record_buffer};
 pub use filling::{digits_of_records, nth_record, write_digits, write_record};
 pub use forms::{is_form, is_slotted, is_wide};
 pub use holding::copy_record;

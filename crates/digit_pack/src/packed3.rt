@@ -1,6 +1,7 @@
 //! A store with three digits in a word.
 
-ghost use Rattle.std.specs.Prelude.{◌≡◌, ◌+◌, ◌*◌, ◌/◌, ◌^◌, ◌<◌, ◌≤◌, ℕ, List, All, length, slice_index};
+ghost use Rattle.std.specs.Prelude.{◌≡◌, ◌+◌, ◌*◌, ◌/◌, ◌^◌, ◌<◌, ◌≤◌, ℕ, List, All, length};
+ghost use Rattle.std.specs.Prelude.{slice_index};
 ghost use Rattle.matrix_u32.specs.Matrix.{entry, times_vector};
 ghost use Rattle.lane_kernels.specs.Packed.{packed_cols, unpacked};
 ghost use Rattle.digit_pack.specs.Columns.{WritesColumn};
@@ -14,10 +15,11 @@ use matrix_u32::{Kernel, MatrixError};
 use std::alloc::Global;
 use std::marker::Model;
 
-/// A store of digits below 1024, three in each word, and at most `MOST` of them. A contract sees it as its matrix of digits.
+/// A store of digits below 1024, three in each word, and at most `MOST` of them. A contract sees it
+/// as its matrix of digits.
 ///
-/// A row is cols / 3 words, rounded up; digit 3 t + u of it stands in bits 10 u to 10 u + 9 of its word t, and
-/// the other bits are 0.
+/// A row is cols / 3 words, rounded up; digit 3 t + u of it stands in bits 10 u to 10 u + 9 of its
+/// word t, and the other bits are 0.
 #[derive(Drop)]
 pub struct PackedDigits<const MOST: usize> {
     alloc: Global,
@@ -77,8 +79,9 @@ fn replaced(word: u32, t: usize, digit: u32) -> u32
     }
 }
 
-// Swaps digits of column j, from row `first` on, with others. The sizes are parameters and no fields of a store, so that the processor reads
-// them once, and not again after each word that is written.
+// Swaps digits of column j, from row `first` on, with others. The sizes are parameters and no
+// fields of a store, so that the processor reads them once, and not again after each word that is
+// written.
 fn swap_packed(
     words: &mut [u32],
     rows: usize,

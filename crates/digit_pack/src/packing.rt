@@ -1,6 +1,7 @@
 //! Bytes as digits, and digits as bytes.
 
-ghost use Rattle.std.specs.Prelude.{◌≡◌, ℕ, ◌+◌, ◌*◌, ◌%◌, ◌/◌, ◌^◌, ◌≤◌, ◌<◌, length, slice_index, All};
+ghost use Rattle.std.specs.Prelude.{◌≡◌, ℕ, ◌+◌, ◌*◌, ◌%◌, ◌/◌, ◌^◌, ◌≤◌, ◌<◌, length, slice_index};
+ghost use Rattle.std.specs.Prelude.{All};
 ghost use Rattle.lane_kernels.specs.Digit.{digit, split_count};
 ghost use Rattle.digit_pack.specs.Digits.{digits_of, number_of, joined};
 ghost use Rattle.digit_pack.specs.Windows.{window};
@@ -25,8 +26,8 @@ fn byte_window(bytes: &[u8], first: usize) -> u32
     byte_at(bytes, first) + byte_at(bytes, first + 1) * 256 + byte_at(bytes, first + 2) * 65536
 }
 
-/// Writes the first digits, of w bits, of the number that bytes write into `out`: least significant first,
-/// as many as `out` has places.
+/// Writes the first digits, of w bits, of the number that bytes write into `out`: least significant
+/// first, as many as `out` has places.
 pub fn pack_bytes(w: u32, bytes: &[u8], out: &mut [u32])
     requires width { (6 ≤ w) × (w ≤ 10) }
     requires room { length out.old ≤ 32768 }

@@ -1,6 +1,8 @@
-//! Slots: a record of its own length in a fixed number of bytes, so that records of different lengths take the same room.
+//! Slots: a record of its own length in a fixed number of bytes, so that records of different
+//! lengths take the same room.
 
-ghost use Rattle.std.specs.Prelude.{◌≡◌, ◌+◌, ◌*◌, ◌^◌, ◌<◌, ◌≤◌, ◌↔◌, IsOk, IfOk, IsTrue, true, length, take, drop, nat_eq, slice_set};
+ghost use Rattle.std.specs.Prelude.{◌≡◌, ◌+◌, ◌*◌, ◌^◌, ◌<◌, ◌≤◌, ◌↔◌, IsOk, IfOk, IsTrue, true};
+ghost use Rattle.std.specs.Prelude.{length, take, drop, nat_eq, slice_set};
 ghost use Rattle.std.specs.List.{list_all};
 ghost use Rattle.digit_pack.specs.Layout.{records_in};
 ghost use Rattle.digit_pack.specs.Slots.{slot_of, is_slot, content_of};
@@ -9,13 +11,14 @@ use crate::filling::nth_record;
 use crate::layout::Layout;
 use thiserror::Error;
 
-/// Bytes that are no slot: fewer than two, a length that is more than what follows it, or a byte after the record that
-/// is not 0.
+/// Bytes that are no slot: fewer than two, a length that is more than what follows it, or a byte
+/// after the record that is not 0.
 #[derive(Clone, Copy, Debug, PartialEq, Eq, Error)]
 #[error("the bytes are no slot")]
 pub struct BadSlot;
 
-/// Writes a record into a slot: its length in two bytes, the lower one first, its bytes, and zeros. It takes no memory.
+/// Writes a record into a slot: its length in two bytes, the lower one first, its bytes, and zeros.
+/// It takes no memory.
 pub fn fill_slot(bytes: &[u8], slot: &mut [u8])
     requires fits { length bytes.now + 2 ≤ length slot.old }
     requires short { length bytes.now < 2 ^ 16 }
@@ -28,7 +31,8 @@ pub fn fill_slot(bytes: &[u8], slot: &mut [u8])
     padding.fill(0);
 }
 
-/// The length of the record in a slot, which stands after the slot's first two bytes. It takes no memory.
+/// The length of the record in a slot, which stands after the slot's first two bytes. It takes no
+/// memory.
 ///
 /// # Errors
 ///
@@ -60,8 +64,8 @@ pub fn slot_record(slot: &[u8]) -> &[u8]
     &slot[2..2 + len]
 }
 
-/// Writes another record into the slot of record i, of slots that stand one after another in `bytes`, and changes no
-/// other. It takes no memory.
+/// Writes another record into the slot of record i, of slots that stand one after another in
+/// `bytes`, and changes no other. It takes no memory.
 pub fn write_slot(layout: &Layout, bytes: &mut [u8], i: usize, written: &[u8])
     requires count { length bytes.old ≡ layout.now.count * layout.now.record_len }
     requires index { i < layout.now.count }
@@ -73,7 +77,8 @@ pub fn write_slot(layout: &Layout, bytes: &mut [u8], i: usize, written: &[u8])
     fill_slot(written, &mut bytes[i * len..i * len + len]);
 }
 
-/// Whether the bytes of each record are a slot, of records that stand one after another in `bytes`. It takes no memory.
+/// Whether the bytes of each record are a slot, of records that stand one after another in `bytes`.
+/// It takes no memory.
 pub fn are_slots(layout: &Layout, bytes: &[u8]) -> bool
     requires { length bytes.now ≡ layout.now.count * layout.now.record_len }
     ensures { result ≡ list_all is_slot (records_in layout.now bytes.now) }

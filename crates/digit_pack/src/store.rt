@@ -1,7 +1,9 @@
 //! Stores of digits.
 
-ghost use Rattle.std.specs.Prelude.{◌≡◌, ◌<◌, ◌≤◌, ◌+◌, ◌*◌, ◌⊎◌, ◌↔◌, ℕ, IfOk, IfErr, IsErrOf, IsOk, OnOk, OnErr, length, slice_index};
-ghost use Rattle.matrix_u32.specs.Matrix.{WordMatrix, IsWhole, entry, times_vector, widened, with_entry, zero_matrix};
+ghost use Rattle.std.specs.Prelude.{◌≡◌, ◌<◌, ◌≤◌, ◌+◌, ◌*◌, ◌⊎◌, ◌↔◌, ℕ, IfOk, IfErr, IsErrOf};
+ghost use Rattle.std.specs.Prelude.{IsOk, OnOk, OnErr, length, slice_index};
+ghost use Rattle.matrix_u32.specs.Matrix.{WordMatrix, IsWhole, entry, times_vector, widened};
+ghost use Rattle.matrix_u32.specs.Matrix.{with_entry, zero_matrix};
 ghost use Rattle.digit_pack.specs.Columns.{WritesColumn};
 ghost use Rattle.digit_pack.specs.Products.{rows_times_vector};
 
@@ -10,8 +12,8 @@ use matrix_u32::{Kernel, MAX_WORDS, Matrix, MatrixError};
 use std::alloc::Global;
 use std::marker::Model;
 
-/// What keeps a matrix of digits below 1024. Its contract is that of a list of rows: `get` gives what `set`
-/// last put there, every other place is kept, and the product is made on that list.
+/// What keeps a matrix of digits below 1024. Its contract is that of a list of rows: `get` gives
+/// what `set` last put there, every other place is kept, and the product is made on that list.
 pub trait DigitStore: Sized + Drop {
     /// The matrix, however it is kept.
     ghost digits: { Self → WordMatrix };
@@ -19,8 +21,8 @@ pub trait DigitStore: Sized + Drop {
     /// How many digits it keeps at most.
     ghost most: { ℕ };
 
-    /// Digits that are all 0. `TooLarge` exactly when there would be more than `most` of them; else the
-    /// digits, or `Memory`.
+    /// Digits that are all 0. `TooLarge` exactly when there would be more than `most` of them; else
+    /// the digits, or `Memory`.
     fn zeros(alloc: Global, rows: usize, cols: usize) -> Result<Self, MatrixError>
         ensures zeros { IfOk result (λ s. (digits s ≡ zero_matrix rows cols) ×
             (rows * cols ≤ most)) }
@@ -50,8 +52,8 @@ pub trait DigitStore: Sized + Drop {
         requires small { digit < 1024 }
         ensures { digits self.new ≡ with_entry (digits self.old) i j digit };
 
-    /// Swaps digits of column j with others: `others` has one for each row from `first` on, and afterwards those that stood
-    /// there, in the same order.
+    /// Swaps digits of column j with others: `others` has one for each row from `first` on, and
+    /// afterwards those that stood there, in the same order.
     fn swap_digits(&mut self, first: usize, j: usize, others: &mut [u32])
         requires rows { first + length others.old ≤ (digits self.old).rows }
         requires col { j < (digits self.old).cols }
@@ -69,11 +71,12 @@ pub trait DigitStore: Sized + Drop {
         }
     }
 
-    /// Adds columns of zeros after the last one, up to `cols` columns; all digits that there were stay.
+    /// Adds columns of zeros after the last one, up to `cols` columns; all digits that there were
+    /// stay.
     ///
-    /// `TooLarge` exactly when there would be more than `most` digits, judged before any memory is asked for; else
-    /// `Memory`, where that is refused. After a refusal all is as it was. As many columns as there are give `Ok`, and
-    /// take no memory.
+    /// `TooLarge` exactly when there would be more than `most` digits, judged before any memory is
+    /// asked for; else `Memory`, where that is refused. After a refusal all is as it was. As many
+    /// columns as there are give `Ok`, and take no memory.
     fn grow(&mut self, cols: usize) -> Result<(), MatrixError>
         requires { (digits self.old).cols ≤ cols }
         ensures grown { OnOk result (digits self.new ≡ widened (digits self.old) cols) }
@@ -90,8 +93,8 @@ pub trait DigitStore: Sized + Drop {
         requires out_fits { length out.old ≡ (digits self.now).rows }
         ensures { out.new ≡ times_vector (digits self.now) x.now };
 
-    /// Writes the digits times x into `x_out` and the digits times y into `y_out`, whatever they held. A store of
-    /// many digits reads them once for both.
+    /// Writes the digits times x into `x_out` and the digits times y into `y_out`, whatever they
+    /// held. A store of many digits reads them once for both.
     fn mul_two<K: Kernel>(
         &self,
         kernel: K,
@@ -111,14 +114,15 @@ pub trait DigitStore: Sized + Drop {
         self.mul_vec(kernel, y, y_out);
     }
 
-    /// Writes rows of the digits, from row `first` on, times x into `out`, whatever it held: as many rows as `out` has words.
+    /// Writes rows of the digits, from row `first` on, times x into `out`, whatever it held: as
+    /// many rows as `out` has words.
     fn mul_rows<K: Kernel>(&self, kernel: K, first: usize, x: &[u32], out: &mut [u32])
         requires x_fits { length x.now ≡ (digits self.now).cols }
         requires inside { first + length out.old ≤ (digits self.now).rows }
         ensures { out.new ≡ rows_times_vector (digits self.now) x.now first (length out.old) };
 
-    /// Writes the same rows of the digits times x into `x_out` and times y into `y_out`, whatever they held. A store of
-    /// many digits reads them once for both.
+    /// Writes the same rows of the digits times x into `x_out` and times y into `y_out`, whatever
+    /// they held. A store of many digits reads them once for both.
     fn mul_two_rows<K: Kernel>(
         &self,
         kernel: K,
@@ -142,7 +146,8 @@ pub trait DigitStore: Sized + Drop {
     }
 }
 
-/// Judges whether a store of at most so many digits may have these rows and columns. It takes no memory.
+/// Judges whether a store of at most so many digits may have these rows and columns. It takes no
+/// memory.
 pub fn judge_size(most: usize, rows: usize, cols: usize) -> Result<(), MatrixError>
     ensures fits { OnOk result (rows * cols ≤ most) }
     ensures refused { IfErr result (λ e. (e ≡ MatrixError.TooLarge) × (most < rows * cols)) }

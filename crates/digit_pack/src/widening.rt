@@ -10,15 +10,16 @@ fn copy_rows(words: &[u32], rows: usize, from: usize, to: usize, wide: &mut [u32
     requires count { length words.now ≡ rows * from }
     requires wider { from ≤ to }
     requires zeros { wide.old ≡ replicate (rows * to) 0 }
-    ensures { wide.new ≡ (widened (record { rows = rows; cols = from; words = words.now }) to).words }
+    ensures { wide.new ≡
+        (widened (record { rows = rows; cols = from; words = words.now }) to).words }
 {
     for i in 0..rows {
         wide[i * to..i * to + from].copy_from_slice(&words[i * from..i * from + from]);
     }
 }
 
-/// The words of `rows` rows of `to` words each: row i begins with row i of `words`, where a row has `from`, and the rest of
-/// it is 0. Only refused memory gives an `Err`.
+/// The words of `rows` rows of `to` words each: row i begins with row i of `words`, where a row has
+/// `from`, and the rest of it is 0. Only refused memory gives an `Err`.
 pub fn widened_words(
     alloc: Global,
     words: &[u32],

@@ -84,7 +84,8 @@ digits_of_column w r a inside low =
     ∙ sym (entry-matrix_of a.cols a.rows (λ i j. entry a j i) (r / n) j low h)))
     ∙ sym (row-matrix_of (a.cols * n) a.rows (decomposed_at w (transpose a)) r inside)
 
--- the digits of words, a row for each place of a digit, are those of the words as a column, read across
+-- the digits of words, a row for each place of a digit, are those of the words as a column, read
+-- across
 pub digits_across : (w : ℕ) (words : List ℕ) →
     matrix_of (split_count w) (length words) (λ t j. digit w (slice_index words j) t) ≡ decomposed w (transpose (one_column words))
 digits_across w words =
@@ -101,7 +102,8 @@ digits_across w words =
     ∙ ap (λ r. digit w (entry (transpose (one_column words)) r j) t) (sym (div_small t k low))
     ∙ ap (λ r. digit w (entry (transpose (one_column words)) (t / k) j) r) (sym (mod_small t k low)))
 
--- the digits times a query's words, as a column, is the query's words as a row times the digits transposed
+-- the digits times a query's words, as a column, is the query's words as a row times the digits
+-- transposed
 pub column_is_row : (d : WordMatrix) (c : List ℕ) → length c ≡ d.cols →
     transpose (record { rows = d.rows; cols = 1; words = times_vector d c }) ≡ product (one_row c) (transpose d)
 column_is_row d c e =

@@ -15,7 +15,7 @@ use Rattle.digit_pack.specs.Products.{rows_times_vector}
 use Rattle.digit_pack.specs.Digits.{decomposed}
 use Rattle.digit_pack.specs.Layout.{Shape, digit_cols, digit_rows, digits_per_record}
 use Rattle.double_scheme.specs.Double.{one_column, first_answer_of, part_answer_of, part_answers_of, part_of_query, words_of_part, double_answer}
-use Rattle.double_scheme.specs.Steps.{HasFirst, HasColumn, HasParts, HasPartRows, HasStepsRoom, IsMadeSoFar, IsMadeUntil, IsWholeAt, rows_made}
+use Rattle.double_scheme.specs.Steps.{HasFirst, HasColumn, HasParts, HasPartRows, HasStepsBuffers, IsMadeSoFar, IsMadeUntil, IsWholeAt, rows_made}
 use Rattle.double_scheme.specs.declared.steps.Stage.{Stage}
 use Rattle.double_scheme.specs.declared.steps.Stage.TheVariants.{Column, Parts}
 use Rattle.double_scheme.proofs.Lengths.{length-answer_of}
@@ -68,9 +68,9 @@ piece_len list first n h =
     length-take-le (first + n - first) (drop first list) (omega (arith, length-drop first list, h)) ∙ omega arith
 
 -- the same memory, with other words in it
-pub room_after : (l : Shape) (n : ℕ) (s t : AnswerSteps) → HasStepsRoom l n s → t.layout ≡ s.layout → length t.column.items ≡ length s.column.items →
+pub room_after : (l : Shape) (n : ℕ) (s t : AnswerSteps) → HasStepsBuffers l n s → t.layout ≡ s.layout → length t.column.items ≡ length s.column.items →
     t.first ≡ s.first → t.hint ≡ s.hint → length t.words.items ≡ length s.words.items → length t.x.items ≡ length s.x.items →
-    length t.y.items ≡ length s.y.items → HasStepsRoom l n t
+    length t.y.items ≡ length s.y.items → HasStepsBuffers l n t
 room_after l n s t h layout column first hint words x y = record {
   layout = layout ∙ h.layout;
   is_layout = h.is_layout;
@@ -125,7 +125,7 @@ no_part_rows l h query s d inside = record {
 
 -- the column is there, and with it the parts begin
 pub column_begun : (l : Shape) (d h a2 : WordMatrix) (query column : List ℕ) (t : AnswerSteps) (made : ℕ) → length query ≡ digit_cols l + digits_per_record l * digit_rows l →
-    d.cols ≡ digit_cols l → length column ≡ d.rows → HasFirst made (times_vector d (take d.cols query)) column → made ≡ d.rows → HasStepsRoom l a2.cols t →
+    d.cols ≡ digit_cols l → length column ≡ d.rows → HasFirst made (times_vector d (take d.cols query)) column → made ≡ d.rows → HasStepsBuffers l a2.cols t →
     t.first ≡ decomposed l.width (transpose (one_column column)) → HasFirst (length (product t.first a2).words) (product t.first a2).words t.words.items →
     HasParts l d h a2 query t 0 0
 column_begun l d h a2 query column t made long cols room so_far all after first hint =
@@ -159,7 +159,7 @@ parts_joined l d h a2 first query old new p next len rows one is long joined bef
     (subst (λ n. HasFirst n ((product first a2).words ++ part_answers_of l h first query) old) (sym (place p))
     (subst (λ (m : WordMatrix). HasFirst (a2.cols * split_count l.width + p * words_of_part l.width a2.cols) ((product m a2).words ++ part_answers_of l h m query) old) (sym is) before))))
 
-whole_at : (l : Shape) (d h a2 : WordMatrix) (query : List ℕ) (s : AnswerSteps) (stage : Stage) → HasStepsRoom l a2.cols s → IsMadeUntil l d h a2 query s stage →
+whole_at : (l : Shape) (d h a2 : WordMatrix) (query : List ℕ) (s : AnswerSteps) (stage : Stage) → HasStepsBuffers l a2.cols s → IsMadeUntil l d h a2 query s stage →
     h.rows ≡ a2.cols * split_count l.width → IsWholeAt l stage → s.words.items ≡ double_answer l d h a2 query
 whole_at l d h a2 query s (Column n) room made rows whole = absurd whole
 whole_at l d h a2 query s (Parts p r) room made rows whole =

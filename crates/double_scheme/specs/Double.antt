@@ -97,7 +97,8 @@ answer_hint w n answer = record { rows = split_count w; cols = n; words = take (
 abbrev pub answer_part : ℕ → ℕ → List ℕ → ℕ → List ℕ
 answer_part w n answer d = take (words_of_part w n) (drop (n * split_count w + d * words_of_part w n) answer)
 
--- a digit of the second layer: a word of a part, less a row of a hint times the part's secret, rounded
+-- a digit of the second layer: a word of a part, less a row of a hint times the part's secret,
+-- rounded
 abbrev pub second_digit : ℕ → WordMatrix → List ℕ → List ℕ → ℕ → ℕ
 second_digit w hint s words r = nearest w (stripped (slice_index words r) (row hint r) s)
 
@@ -135,7 +136,8 @@ double_digit_read l client_hint seed number answer d =
 unfoldable pub double_reading : Shape → WordMatrix → List ℕ → ℕ → List ℕ → List ℕ
 double_reading l client_hint seed number answer = list_of (digits_per_record l) (double_digit_read l client_hint seed number answer)
 
--- the noise stays below half of delta in the rows of the record, and for each part in the rows of the server's hint and of the first answer
+-- the noise stays below half of delta in the rows of the record, and for each part in the rows of
+-- the server's hint and of the first answer
 pub record IsQuietDouble (l : Shape) (records : List (List ℕ)) (a1 : WordMatrix) (seed : List ℕ) (number i : ℕ) : Type 0 where
   pub first : IsQuietRetrieval l records seed number a1.rows i
   pub hint : (d r : ℕ) → d < digits_per_record l → r < a1.cols * split_count l.width →

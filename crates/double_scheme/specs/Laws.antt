@@ -22,9 +22,9 @@ use Rattle.double_scheme.specs.Double.{
   IsQuietDouble,
 }
 
--- what part d of the answer to a query gives, through the second layer: digit by digit the column of the server's hint H
--- and of the first answer that belongs to the row of digit d; and the words that these digits write, which are that row of
--- D A1 and that word of D c1
+-- what part d of the answer to a query gives, through the second layer: digit by digit the column
+-- of the server's hint H and of the first answer that belongs to the row of digit d; and the words
+-- that these digits write, which are that row of D A1 and that word of D c1
 pub record GivesRowOf (l : Shape) (records : List (List ℕ)) (a1 a2 : WordMatrix) (seed : List ℕ) (number i d : ℕ) : Type 0 where
   pub hint_digits : let digits = digit_matrix l records in
       let server_hint = server_hint_of l.width digits a1 in

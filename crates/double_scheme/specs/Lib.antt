@@ -1,5 +1,5 @@
 pub mod Double
 pub mod Laws
 pub mod Recovery
-pub mod Rooms
+pub mod Buffers
 pub mod Steps

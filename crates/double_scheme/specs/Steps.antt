@@ -12,8 +12,9 @@ use Rattle.double_scheme.specs.Double.{first_answer_of, part_of_query, double_an
 abbrev pub HasFirst : ℕ → List ℕ → List ℕ → Type 0
 HasFirst n whole list = take n list ≡ take n whole
 
--- the memory of an answer that is made in steps, under public matrices of n columns: that of an answer, and the words of two of its parts
-pub record HasStepsRoom (l : Shape) (n : ℕ) (s : AnswerSteps) : Type 0 where
+-- the memory of an answer that is made in steps, under public matrices of n columns: that of an
+-- answer, and the words of two of its parts
+pub record HasStepsBuffers (l : Shape) (n : ℕ) (s : AnswerSteps) : Type 0 where
   pub layout : s.layout ≡ l
   pub is_layout : IsLayout l
   pub dimension : n ≤ 1024
@@ -31,14 +32,16 @@ pub record HasColumn (l : Shape) (digits : WordMatrix) (query : List ℕ) (s : A
   pub within : n ≤ digit_rows l
   pub rows : HasFirst n (times_vector digits (take (digit_cols l) query)) s.column.items
 
--- Of part d and of the next one, if there is one, the words of the first r rows of the server's hint are there.
+-- Of part d and of the next one, if there is one, the words of the first r rows of the server's
+-- hint are there.
 pub record HasPartRows (l : Shape) (server_hint : WordMatrix) (query : List ℕ) (s : AnswerSteps) (d r : ℕ) : Type 0 where
   pub within : d ≤ digits_per_record l
   pub rows_within : r ≤ server_hint.rows
   pub x_rows : HasFirst r (times_vector server_hint (part_of_query l query d)) s.x.items
   pub y_rows : d + 1 < digits_per_record l → HasFirst r (times_vector server_hint (part_of_query l query (d + 1))) s.y.items
 
--- From the parts on: the answer is there up to part d, and of this part and the next one the words of the first r rows of the server's hint.
+-- From the parts on: the answer is there up to part d, and of this part and the next one the words
+-- of the first r rows of the server's hint.
 pub record HasParts (l : Shape) (digits server_hint a2 : WordMatrix) (query : List ℕ) (s : AnswerSteps) (d r : ℕ) : Type 0 where
   pub rows : HasPartRows l server_hint query s d r
   pub first_is : s.first ≡ first_answer_of l.width digits (take (digit_cols l) query)
@@ -51,7 +54,7 @@ IsMadeUntil l digits server_hint a2 query s (Parts d r) = HasParts l digits serv
 
 -- What is there of an answer to a query is right.
 pub record IsMadeSoFar (l : Shape) (digits server_hint a2 : WordMatrix) (query : List ℕ) (s : AnswerSteps) : Type 0 where
-  pub room : HasStepsRoom l a2.cols s
+  pub room : HasStepsBuffers l a2.cols s
   pub made : IsMadeUntil l digits server_hint a2 query s s.stage
 
 -- no step is left
@@ -59,8 +62,9 @@ abbrev pub IsWholeAt : Shape → Stage → Type 0
 IsWholeAt l (Column n) = ⊥
 IsWholeAt l (Parts d r) = digits_per_record l ≤ d
 
--- How far an answer is, as one number that each step makes greater, where the server's hint has h rows: the rows of the first layer's answer,
--- then for each part the rows of the server's hint, and one for the end of each of these.
+-- How far an answer is, as one number that each step makes greater, where the server's hint has h
+-- rows: the rows of the first layer's answer, then for each part the rows of the server's hint, and
+-- one for the end of each of these.
 abbrev pub rows_made : Shape → ℕ → Stage → ℕ
 rows_made l h (Column n) = n
 rows_made l h (Parts d r) = digit_rows l + 1 + d * (h + 1) + r

@@ -1,11 +1,14 @@
-//! The server's answer to a query: the first layer's answer in digits, times the second layer's query.
+//! The server's answer to a query: the first layer's answer in digits, times the second layer's
+//! query.
 
 ghost use Rattle.std.specs.Prelude.{◌≡◌, ◌+◌, ◌*◌, ◌≤◌, ◌++◌, IfOk, length, take, drop};
 ghost use Rattle.matrix_u32.specs.Matrix.{product, transpose, zero_matrix};
 ghost use Rattle.lane_kernels.specs.Digit.{split_count};
 ghost use Rattle.digit_pack.specs.Digits.{decomposed};
 ghost use Rattle.digit_pack.specs.Layout.{digit_rows, digit_cols, digits_per_record};
-ghost use Rattle.double_scheme.specs.Double.{one_column, first_answer_of, part_answer_of, part_answers_of, double_query_count, double_answer_count, double_answer};
+ghost use Rattle.double_scheme.specs.Double.{one_column, first_answer_of, part_answer_of};
+ghost use Rattle.double_scheme.specs.Double.{part_answers_of, double_query_count};
+ghost use Rattle.double_scheme.specs.Double.{double_answer_count, double_answer};
 
 use digit_pack::{DigitStore, Layout, split_count};
 use lane_kernels::split_row;
@@ -13,7 +16,8 @@ use matrix_u32::{Kernel, Matrix};
 use std::alloc::{AllocError, Global};
 use std::marker::Model;
 
-/// How many words an answer has, where the public matrices have `dimension` columns: κ n + K κ (n + 1).
+/// How many words an answer has, where the public matrices have `dimension` columns: κ n + K κ (n +
+/// 1).
 pub fn answer_count(layout: &Layout, dimension: usize) -> usize
     requires { dimension ≤ 1024 }
     ensures { result ≡ double_answer_count layout.now dimension }
@@ -23,12 +27,12 @@ pub fn answer_count(layout: &Layout, dimension: usize) -> usize
     first + layout.digits_per_record() * (first + digits)
 }
 
-/// The memory that an answer is made in. It is taken by sizes alone: where it is refused, no word of a query
-/// was looked at.
+/// The memory that an answer is made in. It is taken by sizes alone: where it is refused, no word
+/// of a query was looked at.
 ///
 /// A contract sees it as these sizes.
 #[derive(Drop)]
-pub struct AnswerRoom {
+pub struct AnswerBuffers {
     layout: Layout,
     column: Vec<u32>,
     first: Matrix,
@@ -36,27 +40,31 @@ pub struct AnswerRoom {
     words: Vec<u32>,
 }
 
-impl Model for AnswerRoom {
-    ghost use Rattle.simple_scheme.specs.Rooms.{RoomSizes};
-    ghost use Rattle.double_scheme.specs.Rooms.{HasAnswerRoom};
+impl Model for AnswerBuffers {
+    ghost use Rattle.simple_scheme.specs.Buffers.{BufferSizes};
+    ghost use Rattle.double_scheme.specs.Buffers.{HasAnswerBuffers};
 
-    ghost Value = { RoomSizes };
+    ghost Value = { BufferSizes };
 
     ghost view = { λ r. record { layout = r.layout; dimension = r.hint.cols } };
 
-    ghost invariant = { λ r. HasAnswerRoom r.layout r.column.items r.first r.hint r.words.items };
+    ghost invariant = { λ r. HasAnswerBuffers r.layout r.column.items r.first r.hint r.words.items };
 }
 
-impl AnswerRoom {
+impl AnswerBuffers {
     /// Memory for an answer on a layout, under public matrices of `dimension` columns.
-    pub fn new(alloc: Global, layout: &Layout, dimension: usize) -> Result<AnswerRoom, AllocError>
+    pub fn new(
+        alloc: Global,
+        layout: &Layout,
+        dimension: usize,
+    ) -> Result<AnswerBuffers, AllocError>
         requires { dimension ≤ 1024 }
         ensures { IfOk result (λ room.
             room ≡ record { layout = layout.now; dimension = dimension }) }
     {
         let rows = layout.rows();
         let digits = split_count(layout.width());
-        Ok(AnswerRoom {
+        Ok(AnswerBuffers {
             layout: *layout,
             column: vec![in alloc; 0; rows]?,
             first: zeros(alloc, digits, rows)?,
@@ -86,14 +94,14 @@ impl AnswerRoom {
             (S.digits server_hint.now) a2.now words.now }
         ensures count { length result.items ≡ double_answer_count self.layout self.dimension }
     {
-        let AnswerRoom {
+        let AnswerBuffers {
             layout,
             mut column,
             mut first,
             mut hint,
             words: mut out,
         } = self;
-        let prefix = part_of(words, 0, layout.cols());
+        let prefix = chunk_of(words, 0, layout.cols());
         put_first_answer(
             kernel,
             digits,
@@ -160,7 +168,8 @@ fn put_first_answer<K: Kernel, S: DigitStore>(
     put_digits(column, w, out);
 }
 
-// Writes the answer, from the digits of the first layer's answer: their hint, and the answers to the parts.
+// Writes the answer, from the digits of the first layer's answer: their hint, and the answers to
+// the parts.
 fn put_answer<K: Kernel, S: DigitStore>(
     kernel: K,
     layout: &Layout,
@@ -212,10 +221,10 @@ fn put_part_answers<K: Kernel, S: DigitStore>(
     let count = server_hint.rows() + first.rows();
     let mut d = 0;
     while d < parts {
-        let x = part_of(words, cols + d * rows, rows);
+        let x = chunk_of(words, cols + d * rows, rows);
         let at = d * count;
         if d + 1 < parts {
-            let y = part_of(words, cols + (d + 1) * rows, rows);
+            let y = chunk_of(words, cols + (d + 1) * rows, rows);
             let two = &mut out[at..at + 2 * count];
             put_two_part_answers(kernel, server_hint, first, x, y, two);
             d += 2;
@@ -271,7 +280,7 @@ fn put_part_answer<K: Kernel, S: DigitStore>(
 }
 
 // Words from a place on.
-pub(crate) fn part_of(words: &[u32], start: usize, count: usize) -> &[u32]
+pub(crate) fn chunk_of(words: &[u32], start: usize, count: usize) -> &[u32]
     requires { start + count ≤ length words.now }
     ensures value { result.now ≡ take count (drop start words.now) }
     ensures count { length result.now ≡ count }
@@ -279,13 +288,13 @@ pub(crate) fn part_of(words: &[u32], start: usize, count: usize) -> &[u32]
     &words[start..start + count]
 }
 
-/// The answer to the words of a query: first h, the digits of the first layer's answer times A2, row by row;
-/// then for each digit of the record the server's hint, and after it the digits of the first layer's answer,
-/// times the query's words for that digit. The first layer is answered once.
+/// The answer to the words of a query: first h, the digits of the first layer's answer times A2,
+/// row by row; then for each digit of the record the server's hint, and after it the digits of the
+/// first layer's answer, times the query's words for that digit. The first layer is answered once.
 ///
-/// `digits` and `a2` have the layout's rows, and the server's hint has a column for each of them and κ rows
-/// for each column of `a2`, of which there are at most 1024; the query has m + K ℓ words. Only refused memory
-/// gives an `Err`.
+/// `digits` and `a2` have the layout's rows, and the server's hint has a column for each of them
+/// and κ rows for each column of `a2`, of which there are at most 1024; the query has m + K ℓ
+/// words. Only refused memory gives an `Err`.
 pub fn answer<K: Kernel, S: DigitStore>(
     alloc: Global,
     kernel: K,
@@ -308,6 +317,6 @@ pub fn answer<K: Kernel, S: DigitStore>(
         (S.digits server_hint.now) a2.now words.now) }
     ensures count { IfOk result (λ v. length v.items ≡ double_answer_count layout.now a2.now.cols) }
 {
-    let room = AnswerRoom::new(alloc, layout, a2.cols())?;
+    let room = AnswerBuffers::new(alloc, layout, a2.cols())?;
     Ok(room.fill(kernel, digits, server_hint, a2, words))
 }

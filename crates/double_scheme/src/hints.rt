@@ -12,8 +12,8 @@ use matrix_u32::{Kernel, Matrix};
 use simple_scheme::{HintWatcher, Unwatched};
 use std::alloc::{AllocError, Global};
 
-// The columns of a matrix as rows, each word as a column of its digits. A column is read once, into a list of its
-// own, since its words stand far apart.
+// The columns of a matrix as rows, each word as a column of its digits. A column is read once, into
+// a list of its own, since its words stand far apart.
 pub(crate) fn decompose<S: DigitStore>(alloc: Global, a: &Matrix, w: u32) -> Result<S, AllocError>
     requires width { (6 ≤ w) × (w ≤ 10) }
     requires size { a.now.cols * split_count w * a.now.rows ≤ S.most }
@@ -79,13 +79,13 @@ fn put_digit_row<S: DigitStore>(store: &mut S, words: &[u32], w: u32, r: usize)
     }
 }
 
-/// The hints of both sides, from the first layer's hint D A1 and the second public matrix A2, which have as
-/// many rows and columns as each other, ℓ and n: the server's, the κ n rows of digits of A1^T D^T, w bits to a digit, and the
-/// client's, the server's times A2.
+/// The hints of both sides, from the first layer's hint D A1 and the second public matrix A2, which
+/// have as many rows and columns as each other, ℓ and n: the server's, the κ n rows of digits of
+/// A1^T D^T, w bits to a digit, and the client's, the server's times A2.
 ///
-/// The first layer's hint is read across: no transposed copy is made, and nothing is held but the two hints and one of its
-/// columns.
-/// The store has room for the server's hint, and there are at most 1024 columns, so only memory can be wanting.
+/// The first layer's hint is read across: no transposed copy is made, and nothing is held but the
+/// two hints and one of its columns. The store has room for the server's hint, and there are at
+/// most 1024 columns, so only memory can be wanting.
 pub fn setup<K: Kernel, S: DigitStore>(
     alloc: Global,
     kernel: K,

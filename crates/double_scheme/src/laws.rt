@@ -1,12 +1,14 @@
-//! Laws of DoublePIR, over the definitions alone. A caller that calls one of these functions has its law at
-//! hand in its proof; the call costs nothing.
+//! Laws of DoublePIR, over the definitions alone. A caller that calls one of these functions has
+//! its law at hand in its proof; the call costs nothing.
 
-ghost use Rattle.double_scheme.specs.Laws.{QuietPartGivesItsRow, QuietDoubleRetrievalReadsTheRecord, DoubleCertainShapeIsQuiet};
+ghost use Rattle.double_scheme.specs.Laws.{QuietPartGivesItsRow};
+ghost use Rattle.double_scheme.specs.Laws.{QuietDoubleRetrievalReadsTheRecord};
+ghost use Rattle.double_scheme.specs.Laws.{DoubleCertainShapeIsQuiet};
 
-/// Under the records' own hints, where the retrieval is quiet in both layers, the second layer's words of
-/// part d round, each to its digit, to a column of the server's hint and of the first answer's digits: that of
-/// the row in which digit d of the record stands. Joined to words they are this row of the first layer's hint
-/// and this word of the first layer's answer.
+/// Under the records' own hints, where the retrieval is quiet in both layers, the second layer's
+/// words of part d round, each to its digit, to a column of the server's hint and of the first
+/// answer's digits: that of the row in which digit d of the record stands. Joined to words they are
+/// this row of the first layer's hint and this word of the first layer's answer.
 pub fn quiet_part_gives_its_row()
     ensures { QuietPartGivesItsRow }
 {
@@ -17,8 +19,8 @@ pub fn quiet_part_gives_its_row()
     digit_pack::laws::decomposed_stands_below();
 }
 
-/// Under the records' own hints, the answer to the query for a record reads as the record's digits, wherever
-/// the retrieval is quiet in both layers.
+/// Under the records' own hints, the answer to the query for a record reads as the record's digits,
+/// wherever the retrieval is quiet in both layers.
 pub fn quiet_retrieval_reads_the_record()
     ensures { QuietDoubleRetrievalReadsTheRecord }
 {
@@ -29,8 +31,8 @@ pub fn quiet_retrieval_reads_the_record()
     digit_pack::laws::digits_are_small();
 }
 
-/// On a shape that is certain by its columns and by its rows every retrieval is quiet in both layers, for
-/// every list of records, seed and number.
+/// On a shape that is certain by its columns and by its rows every retrieval is quiet in both
+/// layers, for every list of records, seed and number.
 pub fn certain_shape_is_quiet()
     ensures { DoubleCertainShapeIsQuiet }
 {

@@ -3,11 +3,12 @@
 ghost use Rattle.std.specs.Prelude.{◌≡◌, ℕ, ◌+◌, ◌*◌, ◌^◌, ◌<◌, ◌≤◌, IfOk, length};
 ghost use Rattle.matrix_u32.specs.Matrix.{WordMatrix};
 ghost use Rattle.digit_pack.specs.Layout.{digit_rows, digit_cols, digits_per_record};
-ghost use Rattle.seed_expand.specs.Words.{rows_from};
+ghost use Rattle.seed_expand.specs.Words.{source_rows};
 ghost use Rattle.regev_core.specs.Encryption.{with_noise};
 ghost use Rattle.simple_scheme.specs.Masks.{masks_of};
-ghost use Rattle.double_scheme.specs.Double.{part_noise, part_queries_of, double_query_count, double_query};
-ghost use Rattle.double_scheme.specs.Rooms.{HasPartRoom, HasProducts};
+ghost use Rattle.double_scheme.specs.Double.{part_noise, part_queries_of, double_query_count};
+ghost use Rattle.double_scheme.specs.Double.{double_query};
+ghost use Rattle.double_scheme.specs.Buffers.{HasPartBuffers, HasProducts};
 
 use crate::secrets::{part_secrets, put_matrix_products, put_products, zero_products};
 use digit_pack::Layout;
@@ -17,10 +18,10 @@ use simple_scheme::{Mask, QueryMasks, draw_noise, put_masked_query, put_query, p
 use std::alloc::{AllocError, Global};
 use std::marker::Model;
 
-/// The memory of a query's parts: their secrets, the noise of one, a row of the second public matrix, its products with all
-/// secrets, and the products of each secret.
+/// The memory of a query's parts: their secrets, the noise of one, a row of the second public
+/// matrix, its products with all secrets, and the products of each secret.
 #[derive(Drop)]
-struct PartRoom {
+struct PartBuffers {
     secrets: Vec<u32>,
     noise: Vec<i32>,
     row: Vec<u32>,
@@ -28,21 +29,21 @@ struct PartRoom {
     products: Matrix,
 }
 
-/// The memory that a query is made in. It is taken by sizes alone: no index, number or seed is known where it
-/// is refused.
+/// The memory that a query is made in. It is taken by sizes alone: no index, number or seed is
+/// known where it is refused.
 ///
 /// A contract sees it as these sizes.
 #[derive(Drop)]
-pub struct QueryRoom {
+pub struct QueryBuffers {
     layout: Layout,
     mask: Mask,
-    parts: PartRoom,
+    parts: PartBuffers,
     words: Vec<u32>,
 }
 
-impl Model for QueryRoom {
+impl Model for QueryBuffers {
     ghost use Rattle.std.specs.Prelude.{length};
-    ghost use Rattle.double_scheme.specs.Rooms.{QuerySizes, HasQueryRoom};
+    ghost use Rattle.double_scheme.specs.Buffers.{QuerySizes, HasQueryBuffers};
 
     ghost Value = { QuerySizes };
 
@@ -52,17 +53,17 @@ impl Model for QueryRoom {
       second_dimension = length r.parts.row.items;
     } };
 
-    ghost invariant = { λ r. HasQueryRoom r.layout r.mask r.parts r.words.items };
+    ghost invariant = { λ r. HasQueryBuffers r.layout r.mask r.parts r.words.items };
 }
 
-impl QueryRoom {
+impl QueryBuffers {
     /// Memory for a query on a layout, under public matrices of so many columns.
     pub fn new(
         alloc: Global,
         layout: &Layout,
         first_dimension: usize,
         second_dimension: usize,
-    ) -> Result<QueryRoom, AllocError>
+    ) -> Result<QueryBuffers, AllocError>
         requires { second_dimension ≤ 1024 }
         ensures { IfOk result (λ room. room ≡ record {
           layout = layout.now;
@@ -72,16 +73,17 @@ impl QueryRoom {
     {
         let cols = layout.cols();
         let count = cols + layout.digits_per_record() * layout.rows();
-        Ok(QueryRoom {
+        Ok(QueryBuffers {
             layout: *layout,
             mask: Mask::zeros(alloc, cols, first_dimension)?,
-            parts: part_room(alloc, layout, second_dimension)?,
+            parts: part_buffers(alloc, layout, second_dimension)?,
             words: vec![in alloc; 0; count]?,
         })
     }
 
-    /// The query for record i, as [`query`] says it, where the words of both public matrices come from sources, row by
-    /// row. No matrix is held as a whole, and each is gone through once. No memory is taken.
+    /// The query for record i, as [`query`] says it, where the words of both public matrices come
+    /// from sources, row by row. No matrix is held as a whole, and each is gone through once. No
+    /// memory is taken.
     pub fn fill<K: Kernel>(
         self,
         kernel: K,
@@ -94,12 +96,12 @@ impl QueryRoom {
         requires number { number < 2 ^ 62 }
         requires record { i < self.layout.count }
         ensures words { result.items ≡ double_query self.layout
-            (rows_from first (digit_cols self.layout) self.first_dimension)
-            (rows_from second (digit_rows self.layout) self.second_dimension)
+            (source_rows first (digit_cols self.layout) self.first_dimension)
+            (source_rows second (digit_rows self.layout) self.second_dimension)
             seed.now number i }
         ensures count { length result.items ≡ double_query_count self.layout }
     {
-        let QueryRoom {
+        let QueryBuffers {
             layout,
             mut mask,
             parts: room,
@@ -111,9 +113,10 @@ impl QueryRoom {
         out
     }
 
-    /// The query for record i, whose prefix is made of masks: of retrieval c of them, whose number is `number`. Its parts are
-    /// made by one pass over the second public matrix, whose words a source gives, row by row. Under the first public
-    /// matrix that the masks were made of, and with their seed, this is the query as [`query`] says it. No memory is taken.
+    /// The query for record i, whose prefix is made of masks: of retrieval c of them, whose number
+    /// is `number`. Its parts are made by one pass over the second public matrix, whose words a
+    /// source gives, row by row. Under the first public matrix that the masks were made of, and
+    /// with their seed, this is the query as [`query`] says it. No memory is taken.
     pub fn fill_masked<K: Kernel>(
         self,
         kernel: K,
@@ -131,10 +134,10 @@ impl QueryRoom {
         ensures { (a1 : WordMatrix) → (first count : ℕ) →
             masks.now ≡ masks_of a1 seed.now first count → number ≡ first + c →
             result.items ≡ double_query self.layout a1
-            (rows_from second (digit_rows self.layout) self.second_dimension)
+            (source_rows second (digit_rows self.layout) self.second_dimension)
             seed.now number i }
     {
-        let QueryRoom {
+        let QueryBuffers {
             layout,
             mut mask,
             parts: room,
@@ -148,14 +151,14 @@ impl QueryRoom {
 }
 
 // Memory for the parts of a query on a layout, under a second public matrix of n columns.
-fn part_room(alloc: Global, layout: &Layout, n: usize) -> Result<PartRoom, AllocError>
+fn part_buffers(alloc: Global, layout: &Layout, n: usize) -> Result<PartBuffers, AllocError>
     requires { n ≤ 1024 }
-    ensures room { IfOk result (HasPartRoom layout.now) }
+    ensures room { IfOk result (HasPartBuffers layout.now) }
     ensures dimension { IfOk result (λ room. length room.row.items ≡ n) }
 {
     let rows = layout.rows();
     let parts = layout.digits_per_record();
-    Ok(PartRoom {
+    Ok(PartBuffers {
         secrets: vec![in alloc; 0; parts * n]?,
         noise: vec![in alloc; 0; rows]?,
         row: vec![in alloc; 0; n]?,
@@ -164,7 +167,8 @@ fn part_room(alloc: Global, layout: &Layout, n: usize) -> Result<PartRoom, Alloc
     })
 }
 
-// Writes all parts of a query in one pass over the second public matrix, whose words a source gives, row by row.
+// Writes all parts of a query in one pass over the second public matrix, whose words a source
+// gives, row by row.
 fn put_parts_under<K: Kernel>(
     kernel: K,
     source: WordSource,
@@ -172,17 +176,17 @@ fn put_parts_under<K: Kernel>(
     number: u64,
     layout: &Layout,
     i: usize,
-    room: PartRoom,
+    room: PartBuffers,
     out: &mut [u32],
 )
     requires number { number < 2 ^ 62 }
     requires record { i < layout.now.count }
-    requires part_room { HasPartRoom layout.now room }
+    requires part_buffers { HasPartBuffers layout.now room }
     requires room { length out.old ≡ digits_per_record layout.now * digit_rows layout.now }
     ensures { out.new ≡ part_queries_of layout.now
-        (rows_from source (digit_rows layout.now) (length room.row.items)) seed.now number i }
+        (source_rows source (digit_rows layout.now) (length room.row.items)) seed.now number i }
 {
-    let PartRoom {
+    let PartBuffers {
         secrets,
         mut noise,
         mut row,
@@ -210,18 +214,18 @@ fn put_parts<K: Kernel>(
     number: u64,
     layout: &Layout,
     i: usize,
-    room: PartRoom,
+    room: PartBuffers,
     out: &mut [u32],
 )
     requires number { number < 2 ^ 62 }
     requires record { i < layout.now.count }
     requires rows { a2.now.rows ≡ digit_rows layout.now }
     requires cols { a2.now.cols ≡ length room.row.items }
-    requires part_room { HasPartRoom layout.now room }
+    requires part_buffers { HasPartBuffers layout.now room }
     requires room { length out.old ≡ digits_per_record layout.now * digit_rows layout.now }
     ensures { out.new ≡ part_queries_of layout.now a2.now seed.now number i }
 {
-    let PartRoom {
+    let PartBuffers {
         secrets,
         mut noise,
         row,
@@ -234,7 +238,8 @@ fn put_parts<K: Kernel>(
     put_noisy_parts(seed, number, layout, i, &products, &mut noise, out);
 }
 
-// Writes all parts of a query from the products of the second public matrix with the secrets, a row for each part.
+// Writes all parts of a query from the products of the second public matrix with the secrets, a row
+// for each part.
 fn put_noisy_parts(
     seed: &[u8; 32],
     number: u64,
@@ -299,10 +304,10 @@ fn put_noisy_part(
     regev_core::add_noise(noise, place, w, out);
 }
 
-/// The query for record i: the encryption of its column under `a1`, which has a row for each column of the
-/// layout, and then, for each digit of the record, the encryption of the digit's row under `a2`, which has a
-/// row for each row of the layout and at most 1024 columns. `number` says which retrieval of the client's
-/// seed it is.
+/// The query for record i: the encryption of its column under `a1`, which has a row for each column
+/// of the layout, and then, for each digit of the record, the encryption of the digit's row under
+/// `a2`, which has a row for each row of the layout and at most 1024 columns. `number` says which
+/// retrieval of the client's seed it is.
 pub fn query<K: Kernel>(
     alloc: Global,
     kernel: K,
@@ -324,7 +329,7 @@ pub fn query<K: Kernel>(
 {
     let rows = layout.rows();
     let mut mask = Mask::zeros(alloc, a1.rows(), a1.cols())?;
-    let room = part_room(alloc, layout, a2.cols())?;
+    let room = part_buffers(alloc, layout, a2.cols())?;
     let count = a1.rows() + layout.digits_per_record() * rows;
     let mut out = vec![in alloc; 0; count]?;
     let (prefix, parts) = out.split_at_mut(a1.rows());

@@ -1,15 +1,18 @@
 //! How an answer is read.
 
-ghost use Rattle.std.specs.Prelude.{◌≡◌, ◌≢◌, ◌+◌, ◌*◌, ◌^◌, ◌<◌, ◌≤◌, ◌↔◌, ℕ, IfOk, IsTrue, All, length, drop};
+ghost use Rattle.std.specs.Prelude.{◌≡◌, ◌≢◌, ◌+◌, ◌*◌, ◌^◌, ◌<◌, ◌≤◌, ◌↔◌, ℕ, IfOk, IsTrue, All};
+ghost use Rattle.std.specs.Prelude.{length, drop};
 ghost use Rattle.matrix_u32.specs.Sum.{list_of};
 ghost use Rattle.matrix_u32.specs.Matrix.{entry, row};
 ghost use Rattle.regev_core.specs.Encryption.{nearest, stripped};
 ghost use Rattle.lane_kernels.specs.Digit.{split_count};
 ghost use Rattle.digit_pack.specs.Layout.{digits_per_record};
-ghost use Rattle.double_scheme.specs.Double.{words_of_part, double_answer_count, answer_hint, answer_part, hint_part_words, second_word, row_read, word_read, double_reading};
+ghost use Rattle.double_scheme.specs.Double.{words_of_part, double_answer_count, answer_hint};
+ghost use Rattle.double_scheme.specs.Double.{answer_part, hint_part_words, second_word, row_read};
+ghost use Rattle.double_scheme.specs.Double.{word_read, double_reading};
 ghost use Rattle.double_scheme.specs.Recovery.{DoubleReadsRecord, DoubleGivesQuietRecord};
 
-use crate::answers::{answer_count, part_of};
+use crate::answers::{answer_count, chunk_of};
 use crate::laws;
 use crate::secrets::{part_secrets, zero_products};
 use digit_pack::{Layout, join_word, split_count};
@@ -74,13 +77,14 @@ fn read_column<K: Kernel>(
     let prefix = client_hint.rows();
     let count = prefix + split_count(w);
     for d in 0..secrets.rows() {
-        let words = part_of(answer, prefix + d * count, prefix);
+        let words = chunk_of(answer, prefix + d * count, prefix);
         let word = read_word(kernel, w, client_hint, secrets.row(d), words, k, digits);
         out.set(d, k, word);
     }
 }
 
-// The row of D A1 that each part of an answer gives, in its row of `out`: in one pass over the client's hint.
+// The row of D A1 that each part of an answer gives, in its row of `out`: in one pass over the
+// client's hint.
 fn read_rows<K: Kernel>(
     kernel: K,
     w: u32,
@@ -118,7 +122,8 @@ fn rest_of(words: &[u32], start: usize) -> &[u32]
     &words[start..]
 }
 
-// The digit that a part of an answer reads as, with the row of D A1 that it gives, the first answer's hint and both secrets.
+// The digit that a part of an answer reads as, with the row of D A1 that it gives, the first
+// answer's hint and both secrets.
 fn read_part<K: Kernel>(
     kernel: K,
     w: u32,
@@ -154,7 +159,7 @@ fn first_hint(alloc: Global, w: u32, n: usize, answer: &[u32]) -> Result<Matrix,
     ensures { IfOk result (λ h. h ≡ answer_hint w n answer.now) }
 {
     let count = split_count(w);
-    let words = part_of(answer, 0, n * count).to_vec(alloc)?;
+    let words = chunk_of(answer, 0, n * count).to_vec(alloc)?;
     let Ok(hint) = Matrix::from_words(count, n, words) else {
         return Err(AllocError);
     };
@@ -241,7 +246,7 @@ fn read_digits_of_parts<K: Kernel>(
     let prefix = first_hint.cols() * split_count(w);
     let count = prefix + split_count(w);
     for d in 0..out.len() {
-        let part = part_of(answer, prefix + d * count, count);
+        let part = chunk_of(answer, prefix + d * count, count);
         out[d] = read_part(
             kernel,
             w,
@@ -322,14 +327,15 @@ fn read_record<K: Kernel>(
     record_of_digits(layout, &digits, bytes)
 }
 
-/// The record that the answer to the query for record i gives, with the client's hint, seed and number of
-/// the retrieval. The hint has κ rows to a column, κ being the digits of a word, and at most 1024 columns.
-/// Which record was asked for stands in the query alone: the reading is the same for every i.
+/// The record that the answer to the query for record i gives, with the client's hint, seed and
+/// number of the retrieval. The hint has κ rows to a column, κ being the digits of a word, and at
+/// most 1024 columns. Which record was asked for stands in the query alone: the reading is the same
+/// for every i.
 ///
-/// `BadLength` exactly when the answer hasn't κ n + K κ (n + 1) words, for a hint of n columns and records
-/// of K digits; else `Memory`, or the bytes that the answer's reading writes, `BadDigits` exactly when the
-/// digits read set a bit past the record's last byte. Where the hint and the answer are those of some
-/// records and the retrieval is quiet in both layers, it is the record.
+/// `BadLength` exactly when the answer hasn't κ n + K κ (n + 1) words, for a hint of n columns and
+/// records of K digits; else `Memory`, or the bytes that the answer's reading writes, `BadDigits`
+/// exactly when the digits read set a bit past the record's last byte. Where the hint and the
+/// answer are those of some records and the retrieval is quiet in both layers, it is the record.
 pub fn recover<K: Kernel>(
     alloc: Global,
     kernel: K,

@@ -2,7 +2,7 @@
 
 ghost use Rattle.std.specs.Prelude.{◌≡◌, ◌≢◌, ◌*◌, ◌^◌, ◌<◌, ◌≤◌, ℕ, IfOk, length, slice_index};
 ghost use Rattle.matrix_u32.specs.Matrix.{entry, row, times_vector};
-ghost use Rattle.seed_expand.specs.Words.{rows_from};
+ghost use Rattle.seed_expand.specs.Words.{source_rows};
 ghost use Rattle.double_scheme.specs.Double.{part_secret};
 
 use matrix_u32::{Kernel, Matrix};
@@ -44,9 +44,9 @@ pub fn zero_products(alloc: Global, parts: usize, cols: usize) -> Result<Matrix,
     }
 }
 
-/// Writes the products of the matrix whose words a source gives, row by row, and each secret: row d of `out` is the matrix
-/// times row d of `secrets`. The matrix is never held as a whole: `row_room` is for a row of it, `column_room` for the
-/// row's products.
+/// Writes the products of the matrix whose words a source gives, row by row, and each secret: row d
+/// of `out` is the matrix times row d of `secrets`. The matrix is never held as a whole: `row_room`
+/// is for a row of it, `column_room` for the row's products.
 pub fn put_products<K: Kernel>(
     kernel: K,
     mut source: WordSource,
@@ -59,7 +59,7 @@ pub fn put_products<K: Kernel>(
     requires column_room { length column_room.old ≡ secrets.now.rows }
     requires rows { out.old.rows ≡ secrets.now.rows }
     ensures products { (d : ℕ) → d < out.old.rows → row out.new d
-        ≡ times_vector (rows_from source out.old.cols secrets.now.cols) (row secrets.now d) }
+        ≡ times_vector (source_rows source out.old.cols secrets.now.cols) (row secrets.now d) }
     ensures rows { out.new.rows ≡ out.old.rows }
     ensures cols { out.new.cols ≡ out.old.cols }
 {
@@ -72,8 +72,8 @@ pub fn put_products<K: Kernel>(
     }
 }
 
-/// Writes the products of a matrix and each secret: row d of `out` is the matrix times row d of `secrets`. `column_room` is
-/// for the products of a row.
+/// Writes the products of a matrix and each secret: row d of `out` is the matrix times row d of
+/// `secrets`. `column_room` is for the products of a row.
 pub fn put_matrix_products<K: Kernel>(
     kernel: K,
     a: &Matrix,

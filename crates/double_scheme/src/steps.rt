@@ -1,20 +1,25 @@
 //! An answer that is made in steps, each of which reads a bounded part of the digits.
 
-ghost use Rattle.std.specs.Prelude.{◌≡◌, ◌+◌, ◌*◌, ◌≤◌, ◌<◌, ◌⊎◌, ◌↔◌, ◌++◌, ℕ, List, IfOk, IsTrue, length, take, drop};
+ghost use Rattle.std.specs.Prelude.{◌≡◌, ◌+◌, ◌*◌, ◌≤◌, ◌<◌, ◌⊎◌, ◌↔◌, ◌++◌, ℕ, List, IfOk, IsTrue};
+ghost use Rattle.std.specs.Prelude.{length, take, drop};
 ghost use Rattle.matrix_u32.specs.Matrix.{WordMatrix, product, times_vector, transpose};
 ghost use Rattle.digit_pack.specs.Digits.{decomposed};
 ghost use Rattle.lane_kernels.specs.Digit.{split_count};
 ghost use Rattle.digit_pack.specs.Layout.{digit_rows, digit_cols, digits_per_record};
-ghost use Rattle.double_scheme.specs.Double.{one_column, first_answer_of, part_answer_of, part_answers_of, part_of_query, words_of_part, double_query_count, double_answer};
-ghost use Rattle.double_scheme.specs.Steps.{HasColumn, HasFirst, HasParts, HasPartRows, HasStepsRoom, IsMadeSoFar, IsMadeUntil, IsWholeAt, rows_made};
+ghost use Rattle.double_scheme.specs.Double.{one_column, first_answer_of, part_answer_of};
+ghost use Rattle.double_scheme.specs.Double.{part_answers_of, part_of_query, words_of_part};
+ghost use Rattle.double_scheme.specs.Double.{double_query_count, double_answer};
+ghost use Rattle.double_scheme.specs.Steps.{HasColumn, HasFirst, HasParts, HasPartRows};
+ghost use Rattle.double_scheme.specs.Steps.{HasStepsBuffers, IsMadeSoFar, IsMadeUntil, IsWholeAt};
+ghost use Rattle.double_scheme.specs.Steps.{rows_made};
 
-use crate::answers::{answer_count, part_of, put_digits, zeros};
+use crate::answers::{answer_count, chunk_of, put_digits, zeros};
 use digit_pack::{DigitStore, Layout, split_count};
 use matrix_u32::{Kernel, Matrix};
 use std::alloc::{AllocError, Global};
 
-/// How many digits a step reads, unless one row has more: 2^25, which a processor of today multiplies in some 10 milliseconds, also by
-/// two words each.
+/// How many digits a step reads, unless one row has more: 2^25, which a processor of today
+/// multiplies in some 10 milliseconds, also by two words each.
 pub const STEP_DIGITS: usize = 33_554_432;
 
 /// How far an answer is.
@@ -22,7 +27,8 @@ pub const STEP_DIGITS: usize = 33_554_432;
 pub(crate) enum Stage {
     /// So many rows of the first layer's answer are there.
     Column(usize),
-    /// The answer is there up to a part, and of that part and the next one so many rows of the server's hint.
+    /// The answer is there up to a part, and of that part and the next one so many rows of the
+    /// server's hint.
     Parts(usize, usize),
 }
 
@@ -40,7 +46,8 @@ pub struct AnswerSteps {
     words: Vec<u32>,
 }
 
-/// How many rows of digits are made, of so many that are left: at least one, and else no more than have the digits that may be read.
+/// How many rows of digits are made, of so many that are left: at least one, and else no more than
+/// have the digits that may be read.
 pub fn rows_in_step(most_digits: usize, cols: usize, left: usize) -> usize
     requires { 0 < left }
     ensures some { 0 < result }
@@ -112,7 +119,8 @@ fn put_two_rows<K: Kernel, S: DigitStore>(
     );
 }
 
-// Writes the words of a part after those of the server's hint, which are there: the first layer's answer times the part.
+// Writes the words of a part after those of the server's hint, which are there: the first layer's
+// answer times the part.
 fn finish_part<K: Kernel, S: DigitStore>(
     kernel: K,
     server_hint: &S,
@@ -138,7 +146,7 @@ fn query_part<'a>(layout: &Layout, query: &'a [u32], part: usize) -> &'a [u32]
     ensures count { length result.now ≡ digit_rows layout.now }
 {
     let rows = layout.rows();
-    part_of(query, layout.cols() + part * rows, rows)
+    chunk_of(query, layout.cols() + part * rows, rows)
 }
 
 // Writes the words of a part into the answer, in which there are those of all parts before.
@@ -152,7 +160,8 @@ fn join_part(place: usize, part: &[u32], words: &mut [u32])
     words[place..place + part.len()].copy_from_slice(part);
 }
 
-// Ends a part of which all rows of the server's hint are there, and writes its words into the answer.
+// Ends a part of which all rows of the server's hint are there, and writes its words into the
+// answer.
 fn end_part<K: Kernel, S: DigitStore>(
     kernel: K,
     layout: &Layout,
@@ -184,7 +193,8 @@ fn end_part<K: Kernel, S: DigitStore>(
     join_part(server_hint.rows() + part * made.len(), made, words);
 }
 
-// Ends a part and, if there is one, the part after it, of which all rows of the server's hint are there. Answers the part that is next.
+// Ends a part and, if there is one, the part after it, of which all rows of the server's hint are
+// there. Answers the part that is next.
 fn end_both<K: Kernel, S: DigitStore>(
     kernel: K,
     layout: &Layout,
@@ -229,7 +239,8 @@ fn end_both<K: Kernel, S: DigitStore>(
     next + 1
 }
 
-// Makes the hint of the digits of the first layer's answer, and writes its words to the beginning of the answer.
+// Makes the hint of the digits of the first layer's answer, and writes its words to the beginning
+// of the answer.
 fn put_first_hint<K: Kernel>(
     kernel: K,
     first: &Matrix,
@@ -252,7 +263,8 @@ fn put_first_hint<K: Kernel>(
     prefix.copy_from_slice(hint);
 }
 
-// Writes the words of some more rows of the first layer's answer, if any is left, and answers how many are there then.
+// Writes the words of some more rows of the first layer's answer, if any is left, and answers how
+// many are there then.
 fn put_column_rows<K: Kernel, S: DigitStore>(
     kernel: K,
     digits: &S,
@@ -280,7 +292,7 @@ fn put_column_rows<K: Kernel, S: DigitStore>(
     put_rows(
         kernel,
         digits,
-        part_of(query, 0, digits.cols()),
+        chunk_of(query, 0, digits.cols()),
         made,
         count,
         column,
@@ -288,8 +300,8 @@ fn put_column_rows<K: Kernel, S: DigitStore>(
     made + count
 }
 
-// Writes the words of some more rows of the server's hint, if any is left, for a part and, if there is one, for the part after it, and
-// answers how many are there then.
+// Writes the words of some more rows of the server's hint, if any is left, for a part and, if there
+// is one, for the part after it, and answers how many are there then.
 fn put_part_rows<K: Kernel, S: DigitStore>(
     kernel: K,
     layout: &Layout,
@@ -339,7 +351,8 @@ fn put_part_rows<K: Kernel, S: DigitStore>(
 }
 
 impl AnswerSteps {
-    /// The memory of an answer on a layout, under public matrices of `dimension` columns, with no step made. It is taken by sizes alone.
+    /// The memory of an answer on a layout, under public matrices of `dimension` columns, with no
+    /// step made. It is taken by sizes alone.
     pub fn new(alloc: Global, layout: &Layout, dimension: usize) -> Result<AnswerSteps, AllocError>
         requires { dimension ≤ 1024 }
         ensures so_far { IfOk result (λ s. (digits server_hint a2 : WordMatrix) (query : List ℕ) →
@@ -361,9 +374,10 @@ impl AnswerSteps {
         })
     }
 
-    /// Makes one more step of the answer to the words of a query, and answers whether no step is left: then it is whole. The digits, the
-    /// server's hint, the second public matrix and the query are the same in all steps. Each step makes a row more at least, so
-    /// that the steps come to an end.
+    /// Makes one more step of the answer to the words of a query, and answers whether no step is
+    /// left: then it is whole. The digits, the server's hint, the second public matrix and the
+    /// query are the same in all steps. Each step makes a row more at least, so that the steps come
+    /// to an end.
     pub fn step<K: Kernel, S: DigitStore>(
         &mut self,
         kernel: K,
@@ -408,7 +422,8 @@ impl AnswerSteps {
         }
     }
 
-    // Makes some more rows, which have so many digits at most, unless one has more, and answers how many were read.
+    // Makes some more rows, which have so many digits at most, unless one has more, and answers how
+    // many were read.
     fn advance<K: Kernel, S: DigitStore>(
         &mut self,
         kernel: K,
@@ -453,7 +468,8 @@ impl AnswerSteps {
         self.words
     }
 
-    // Makes some more rows of the first layer's answer and, if all are there then, its digits and their hint.
+    // Makes some more rows of the first layer's answer and, if all are there then, its digits and
+    // their hint.
     fn make_column<K: Kernel, S: DigitStore>(
         &mut self,
         kernel: K,
@@ -467,11 +483,13 @@ impl AnswerSteps {
         requires rows { (S.digits digits.now).rows ≡ digit_rows self.old.layout }
         requires cols { (S.digits digits.now).cols ≡ digit_cols self.old.layout }
         requires second_rows { a2.now.rows ≡ digit_rows self.old.layout }
-        requires room { HasStepsRoom self.old.layout a2.now.cols self.old }
+        requires room { HasStepsBuffers self.old.layout a2.now.cols self.old }
         requires column { HasColumn self.old.layout (S.digits digits.now) query.now self.old made }
-        ensures so_far { (server_hint : WordMatrix) → IsMadeSoFar self.old.layout (S.digits digits.now)
-            server_hint a2.now query.now self.new }
-        ensures forward { (hint_rows : ℕ) → rows_made self.old.layout hint_rows (Stage.Column made) <
+        ensures so_far { (server_hint : WordMatrix) →
+            IsMadeSoFar self.old.layout (S.digits digits.now) server_hint a2.now query.now
+            self.new }
+        ensures forward { (hint_rows : ℕ) →
+            rows_made self.old.layout hint_rows (Stage.Column made) <
             rows_made self.old.layout hint_rows self.new.stage }
         ensures layout { self.new.layout ≡ self.old.layout }
     {
@@ -489,8 +507,8 @@ impl AnswerSteps {
     // Makes the digits of the first layer's answer, of which all rows are there, and their hint.
     fn make_first<K: Kernel>(&mut self, kernel: K, a2: &Matrix)
         requires second_rows { a2.now.rows ≡ digit_rows self.old.layout }
-        requires room { HasStepsRoom self.old.layout a2.now.cols self.old }
-        ensures room { HasStepsRoom self.old.layout a2.now.cols self.new }
+        requires room { HasStepsBuffers self.old.layout a2.now.cols self.old }
+        ensures room { HasStepsBuffers self.old.layout a2.now.cols self.new }
         ensures stage { self.new.stage ≡ Stage.Parts 0 0 }
         ensures first { self.new.first ≡ decomposed self.old.layout.width
             (transpose (one_column self.old.column.items)) }
@@ -517,12 +535,13 @@ impl AnswerSteps {
         requires server_rows { (S.digits server_hint.now).rows ≡
             self.old.hint.cols * split_count self.old.layout.width }
         requires server_cols { (S.digits server_hint.now).cols ≡ digit_rows self.old.layout }
-        requires room { HasStepsRoom self.old.layout self.old.hint.cols self.old }
+        requires room { HasStepsBuffers self.old.layout self.old.hint.cols self.old }
         requires stage { self.old.stage ≡ Stage.Parts part made }
         requires rows { HasPartRows self.old.layout (S.digits server_hint.now) query.now self.old
             part made }
         ensures so_far { (digits a2 : WordMatrix) → a2.cols ≡ self.old.hint.cols →
-            HasParts self.old.layout digits (S.digits server_hint.now) a2 query.now self.old part made →
+            HasParts self.old.layout digits (S.digits server_hint.now) a2 query.now self.old part
+            made →
             IsMadeSoFar self.old.layout digits (S.digits server_hint.now) a2 query.now self.new }
         ensures forward { digits_per_record self.old.layout ≤ part ⊎
             rows_made self.old.layout (S.digits server_hint.now).rows (Stage.Parts part made) <
@@ -568,7 +587,7 @@ impl AnswerSteps {
         requires server_cols { (S.digits server_hint.now).cols ≡ digit_rows self.old.layout }
         requires part { part < digits_per_record self.old.layout }
         requires made { (S.digits server_hint.now).rows ≤ made }
-        requires room { HasStepsRoom self.old.layout self.old.hint.cols self.old }
+        requires room { HasStepsBuffers self.old.layout self.old.hint.cols self.old }
         requires rows { HasPartRows self.old.layout (S.digits server_hint.now) query.now self.old
             part made }
         ensures so_far { (digits a2 : WordMatrix) → a2.cols ≡ self.old.hint.cols →

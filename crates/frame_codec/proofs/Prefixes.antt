@@ -245,7 +245,8 @@ sound_before wide bytes more size le s =
       known = λ h. (ap (is_kind wide) (sym (kind_ahead bytes more le)) ∙ (s.known long).0, omega (arith, len, (s.known long).1));
     }
 
--- a frame that stands at the beginning of bytes with more after them stands in the bytes, where they are long enough
+-- a frame that stands at the beginning of bytes with more after them stands in the bytes, where
+-- they are long enough
 frame_within : (wide : Bool) (bytes more : List ℕ) → 5 + length_at bytes ≤ length bytes → HasFrame wide (bytes ++ more) → HasFrame wide bytes
 frame_within wide bytes more size h =
     let f : Frame = h.0 in

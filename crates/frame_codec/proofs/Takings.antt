@@ -6,7 +6,7 @@ use Rattle.std.proofs.lemmas.List.{length-append, append-nil, take-append-drop}
 use Rattle.frame_codec.specs.declared.frame.Frame.{Frame}
 use Rattle.frame_codec.specs.declared.reader.ReadFault.{ReadFault}
 use Rattle.frame_codec.specs.declared.reader.ReadFault.TheVariants.{Memory, Failed}
-use Rattle.frame_codec.specs.declared.reader.Taken.{Taken}
+use Rattle.frame_codec.specs.declared.reader.FrameRead.{FrameRead}
 use Rattle.frame_codec.specs.Frames.{encoding}
 use Rattle.frame_codec.specs.Streams.{IsFrameOf, Feeds, HasFrame, IsPartial, Reads, TakesFrame}
 use Rattle.frame_codec.proofs.Prefixes.{in_all, nothing_partial, partial_in_all}
@@ -71,7 +71,8 @@ feeds_both wide (Some o) p q (Err fault) fs gs mid new a b =
     let second : Feeds wide (Some a.0) q (Err fault) gs new = subst (λ (m : Option (List ℕ)). Feeds wide m q (Err fault) gs new) a.2 b in
     (rw (sym (append_assoc o p q)) (stops_on wide ((o ++ p) ++ q) fs gs (a.0 ++ q) fault (begins_ahead wide (o ++ p) fs a.0 q a.1.begins) second.0), second.1)
 
--- What is left of a piece, fed to a reader, is the end of what the whole piece does to the reader before it.
+-- What is left of a piece, fed to a reader, is the end of what the whole piece does to the reader
+-- before it.
 abbrev pub GoesOn : Bool → Option (List ℕ) → List ℕ → List Frame → Option (List ℕ) → List ℕ → Type 0
 GoesOn wide old piece frames now rest = (answer : Result (Unit {0}) ReadFault) (more : List Frame) (new : Option (List ℕ)) → Feeds wide now rest answer more new →
     Feeds wide old piece answer (frames ++ more) new
@@ -99,11 +100,11 @@ refused_frame wide (Some old) rest n f mid a =
 
 -- ---- what was taken, by whether a frame is whole
 
-pub fed_one : (wide : Bool) (old : Option (List ℕ)) (piece : List ℕ) (t : Taken) (new : Option (List ℕ)) (f : Frame) → TakesFrame wide old piece t new → t.frame ≡ Some f →
+pub fed_one : (wide : Bool) (old : Option (List ℕ)) (piece : List ℕ) (t : FrameRead) (new : Option (List ℕ)) (f : Frame) → TakesFrame wide old piece t new → t.frame ≡ Some f →
     Feeds wide old (take t.count piece) (Ok tt) (f ∷ []) new
 fed_one wide old piece t new f k is = subst (λ (x : Option Frame). Feeds wide old (take t.count piece) (Ok tt) (option_to_list x) new) is k.fed
 
-pub fed_none : (wide : Bool) (old : Option (List ℕ)) (piece : List ℕ) (t : Taken) (new : Option (List ℕ)) → TakesFrame wide old piece t new → t.frame ≡ None →
+pub fed_none : (wide : Bool) (old : Option (List ℕ)) (piece : List ℕ) (t : FrameRead) (new : Option (List ℕ)) → TakesFrame wide old piece t new → t.frame ≡ None →
     Feeds wide old piece (Ok tt) [] new
 fed_none wide old piece t new k is =
     let all : t.count ≡ length piece = subst (λ (x : Option Frame). IfNone x (t.count ≡ length piece)) is k.whole in
@@ -112,7 +113,7 @@ fed_none wide old piece t new k is =
     subst (λ (x : List ℕ). Feeds wide old x (Ok tt) [] new) (ap (λ k. take k piece) all ∙ take-length piece) fed
 
 -- what a reader keeps after a piece is less than a frame
-pub keeps_partial : (wide : Bool) (old : List ℕ) (piece : List ℕ) (r : Result Taken ReadFault) (new : List ℕ) →
+pub keeps_partial : (wide : Bool) (old : List ℕ) (piece : List ℕ) (r : Result FrameRead ReadFault) (new : List ℕ) →
     IfOk r (λ t. TakesFrame wide (Some old) piece t (Some new)) → IsOk r → IsPartial true new
 keeps_partial wide old piece (Ok t) new k ok =
     let same : k.fed.0 ≡ new = some_same k.fed.0 new (sym k.fed.2) in

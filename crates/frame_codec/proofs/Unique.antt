@@ -245,7 +245,8 @@ stops_on_way wide BadPayload new rest later more all e h = absurd (no_fault_ahea
 stops_on_way wide Memory new rest later more all e h = tt
 stops_on_way wide Failed new rest later more all e h = absurd h
 
--- what comes of frames that were sent: those that are whole are read, and the others are still on their way
+-- what comes of frames that were sent: those that are whole are read, and the others are still on
+-- their way
 pub reads_sent : (wide : Bool) (old piece later : List ℕ) (sent : List Frame) (answer : Result (Unit {0}) ReadFault) (frames : List Frame) (new : Option (List ℕ)) →
     AllByRecursion (IsFrameOf wide) sent → (old ++ piece) ++ later ≡ flat_map encoding sent
     → Feeds wide (Some old) piece answer frames new → (more : List Frame) × (sent ≡ frames ++ more) × AllByRecursion (IsFrameOf wide) more × Arrives answer new later more

@@ -1,4 +1,5 @@
--- What a frame is on the wire: the length of its payload in four bytes, its kind in one byte, its payload.
+-- What a frame is on the wire: the length of its payload in four bytes, its kind in one byte, its
+-- payload.
 use Rattle.std.specs.Prelude.{◌≡◌, ◌<◌, ◌≤◌, ◌+◌, ◌*◌, ◌^◌, ℕ, List, [], ◌∷◌, ◌++◌, length, All, Option, None, Some}
 use Rattle.frame_codec.specs.Numbers.{number_bytes, word_bytes}
 use Rattle.frame_codec.specs.Rows.{HasWholeRows}

@@ -13,7 +13,8 @@ FaultsExcludeFrames = (wide : Bool) (fault : ReadFault) (bytes : List ℕ) → H
 abbrev pub OneFault : Type 0
 OneFault = (wide : Bool) (fault other : ReadFault) (bytes : List ℕ) → HasFault wide fault bytes → HasFault wide other bytes → fault ≡ other
 
--- The unfinished bytes and the piece decide the answer, the frames and the bytes that are unfinished then, where memory isn't refused.
+-- The unfinished bytes and the piece decide the answer, the frames and the bytes that are
+-- unfinished then, where memory isn't refused.
 abbrev pub FeedsDecide : Type 0
 FeedsDecide = (wide : Bool) (old : Option (List ℕ)) (piece : List ℕ) (answer other : Result (Unit {0}) ReadFault) (frames others : List Frame) (new end : Option (List ℕ)) →
     Feeds wide old piece answer frames new → Feeds wide old piece other others end → answer ≢ Err Memory

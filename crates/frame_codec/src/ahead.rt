@@ -4,9 +4,9 @@ ghost use Rattle.std.specs.Prelude.{◌++◌, IfSome, IfNone};
 ghost use Rattle.frame_codec.specs.Streams.{HasQuery};
 ghost use Rattle.frame_codec.specs.declared.ahead.QueryHead.{QueryHead};
 
-use crate::numbers::u64_at;
 use crate::payload::is_payload_len;
 use crate::prefix::{HEADER_LEN, fill_front, split_frame_len};
+use crate::word_bytes::u64_at;
 
 /// The kind of a query.
 const QUERY: u8 = 0x05;

@@ -89,7 +89,8 @@ impl Words {
     }
 }
 
-/// Rows of a hint one after another: of each its number, and then as many words as the dimension says.
+/// Rows of a hint one after another: of each its number, and then as many words as the dimension
+/// says.
 #[derive(Drop)]
 pub struct Rows {
     dimension: u16,
@@ -242,7 +243,8 @@ pub enum Frame {
     Append {
         bytes: Bytes,
     },
-    /// Kind 0a, of a wide database alone: the records that have changed since a version are asked for.
+    /// Kind 0a, of a wide database alone: the records that have changed since a version are asked
+    /// for.
     ChangesAsk {
         since: u64,
     },
@@ -287,14 +289,15 @@ pub enum Frame {
     Done {
         version: u64,
     },
-    /// Kind 88: the rows that have changed aren't known or are too many; this version is current, with so
-    /// many records.
+    /// Kind 88: the rows that have changed aren't known or are too many; this version is current,
+    /// with so many records.
     NoDelta {
         version: u64,
         count: u32,
     },
-    /// Kind 8a, of a wide database alone: the records of version `now`, with so many records, that differ from those of version
-    /// `since`. An entry is a record's index in four bytes, and the bytes that it had and has in the digits.
+    /// Kind 8a, of a wide database alone: the records of version `now`, with so many records, that
+    /// differ from those of version `since`. An entry is a record's index in four bytes, and the
+    /// bytes that it had and has in the digits.
     Changes {
         since: u64,
         now: u64,

@@ -1,13 +1,16 @@
 //! Laws of numbers, frames and streams. Each function does nothing: its clause is the law.
 
-ghost use Rattle.std.specs.Prelude.{◌≡◌, ◌≤◌, ◌<◌, ◌+◌, ◌^◌, ◌++◌, [], ℕ, Bool, List, Option, None, Some, Result, Ok, Err, length, take, slice_index};
+ghost use Rattle.std.specs.Prelude.{◌≡◌, ◌≤◌, ◌<◌, ◌+◌, ◌^◌, ◌++◌, [], ℕ, Bool, List, Option, None};
+ghost use Rattle.std.specs.Prelude.{Some, Result, Ok, Err, length, take, slice_index};
 ghost use Rattle.std.specs.List.{flat_map, AllByRecursion};
 ghost use Rattle.byteorder.specs.Endian.{little_bytes, little_number};
 ghost use Rattle.frame_codec.specs.declared.frame.Frame.{Frame};
 ghost use Rattle.frame_codec.specs.declared.reader.ReadFault.{ReadFault};
-ghost use Rattle.frame_codec.specs.Laws.{FaultsExcludeFrames, OneFault, FeedsDecide, FeedsBegin, FeedsAgree};
+ghost use Rattle.frame_codec.specs.Laws.{FaultsExcludeFrames, OneFault, FeedsDecide, FeedsBegin};
+ghost use Rattle.frame_codec.specs.Laws.{FeedsAgree};
 ghost use Rattle.frame_codec.specs.Frames.{IsFrame, encoding, payload_of, payload_size};
-ghost use Rattle.frame_codec.specs.Streams.{IsFrameOf, Begins, HasFrame, Feeds, FeedsAll, Reads, Stops, Arrives, joined_pieces};
+ghost use Rattle.frame_codec.specs.Streams.{IsFrameOf, Begins, HasFrame, Feeds, FeedsAll, Reads};
+ghost use Rattle.frame_codec.specs.Streams.{Stops, Arrives, joined_pieces};
 
 /// The bytes that are read as a number are its only encoding in so many bytes.
 pub fn one_number()
@@ -41,11 +44,12 @@ pub fn one_reading()
 pub fn any_chunking()
     ensures frames { (wide : Bool) (pieces : List (List ℕ)) (frames : List Frame) (rest : List ℕ) →
         FeedsAll wide [] pieces frames rest → Reads wide (joined_pieces pieces) frames rest }
-    ensures fault { (wide : Bool) (pieces : List (List ℕ)) (frames : List Frame) (rest piece : List ℕ)
-        (fault : ReadFault) (last : List Frame) (new : Option (List ℕ)) →
+    ensures fault { (wide : Bool) (pieces : List (List ℕ)) (frames : List Frame)
+        (rest piece : List ℕ) (fault : ReadFault) (last : List Frame) (new : Option (List ℕ)) →
         FeedsAll wide [] pieces frames rest → Feeds wide (Some rest) piece (Err fault) last new →
         Stops wide (joined_pieces pieces ++ piece) (frames ++ last) fault }
-    ensures same { (wide : Bool) (pieces others : List (List ℕ)) (frames more : List Frame) (rest end : List ℕ) →
+    ensures same { (wide : Bool) (pieces others : List (List ℕ)) (frames more : List Frame)
+        (rest end : List ℕ) →
         FeedsAll wide [] pieces frames rest → FeedsAll wide [] others more end →
         joined_pieces pieces ≡ joined_pieces others → (frames ≡ more) × (rest ≡ end) }
 {}
@@ -66,8 +70,9 @@ pub fn one_fault()
     ensures faults { OneFault }
 {}
 
-/// What a feed answers, the frames that it gives and what it leaves unfinished are decided by the bytes that were unfinished and
-/// the piece, unless memory is refused; then the frames are the first of those that it would have given.
+/// What a feed answers, the frames that it gives and what it leaves unfinished are decided by the
+/// bytes that were unfinished and the piece, unless memory is refused; then the frames are the
+/// first of those that it would have given.
 pub fn feeds_decide()
     ensures same { FeedsDecide }
     ensures prefix { FeedsBegin }

@@ -1,11 +1,12 @@
 //! The frame that a kind and a payload make: one function a kind.
 
-ghost use Rattle.std.specs.Prelude.{◌≡◌, ◌≤◌, ◌<◌, ◌+◌, ◌*◌, ◌^◌, ◌∷◌, ◌++◌, ◌↔◌, ℕ, All, IsTrue, length, IfOk, OnErr, IfSome, IfNone};
+ghost use Rattle.std.specs.Prelude.{◌≡◌, ◌≤◌, ◌<◌, ◌+◌, ◌*◌, ◌^◌, ◌∷◌, ◌++◌, ◌↔◌, ℕ, All, IsTrue};
+ghost use Rattle.std.specs.Prelude.{length, IfOk, OnErr, IfSome, IfNone};
 ghost use Rattle.frame_codec.specs.Numbers.{number_bytes, word_bytes};
 ghost use Rattle.frame_codec.specs.Frames.{IsPayload, IsPayloadLength, ReadsAs};
 
 use crate::frame::{Bytes, Bytes32, Frame, Rows, Words};
-use crate::numbers::{BLOCK_WORDS, push_block, u16_at, u32_at, u64_at};
+use crate::word_bytes::{BLOCK_WORDS, push_block, u16_at, u32_at, u64_at};
 use std::alloc::{AllocError, Global};
 
 /// The words that the bytes encode, read block by block, so that their memory is written once.
@@ -295,8 +296,8 @@ fn is_words_len(len: usize, before: usize) -> bool
     len >= before && (len - before) % 4 == 0
 }
 
-/// Whether a frame of this kind has a payload of so many bytes. Whether the words of a Delta are whole rows is
-/// said by its dimension, and not by the length.
+/// Whether a frame of this kind has a payload of so many bytes. Whether the words of a Delta are
+/// whole rows is said by its dimension, and not by the length.
 pub fn is_payload_len(kind: u8, len: usize) -> bool
     ensures { IsTrue result ↔ IsPayloadLength kind len }
 {
@@ -324,7 +325,8 @@ pub fn is_payload_len(kind: u8, len: usize) -> bool
     }
 }
 
-/// The frame of this kind with this payload, if there is one. Memory is asked for only where there is.
+/// The frame of this kind with this payload, if there is one. Memory is asked for only where there
+/// is.
 pub fn decode(alloc: Global, kind: u8, payload: &[u8]) -> Result<Option<Frame>, AllocError>
     ensures reads { IfOk result (ReadsAs kind payload.now) }
     ensures memory { OnErr result (IsPayload kind payload.now) }

@@ -1,14 +1,16 @@
 //! The frames at the beginning of bytes.
 
-ghost use Rattle.std.specs.Prelude.{◌≡◌, ◌<◌, ◌≤◌, ◌↔◌, IsTrue, Some, ℕ, List, ◌++◌, IfOk, OnOk, IfErr, IfSome, IfNone, length, take};
+ghost use Rattle.std.specs.Prelude.{◌≡◌, ◌<◌, ◌≤◌, ◌↔◌, IsTrue, Some, ℕ, List, ◌++◌, IfOk, OnOk};
+ghost use Rattle.std.specs.Prelude.{IfErr, IfSome, IfNone, length, take};
 ghost use Rattle.frame_codec.specs.declared.frame.Frame.{Frame};
 ghost use Rattle.frame_codec.specs.Frames.{encoding};
-ghost use Rattle.frame_codec.specs.Streams.{HasBadLength, HasFault, HasFrame, HasPublishNext, IsPartial, IsFrameOf, IsReadable, StopsAt, is_kind};
+ghost use Rattle.frame_codec.specs.Streams.{HasBadLength, HasFault, HasFrame, HasPublishNext};
+ghost use Rattle.frame_codec.specs.Streams.{IsPartial, IsFrameOf, IsReadable, StopsAt, is_kind};
 
 use crate::frame::Frame;
-use crate::numbers::u32_at;
 use crate::payload::{decode, is_payload_len};
 use crate::reader::ReadFault;
+use crate::word_bytes::u32_at;
 use std::alloc::Global;
 
 /// The most bytes that a payload may have.
@@ -47,8 +49,8 @@ pub fn frame_len(wide: bool, bytes: &[u8]) -> Result<usize, ReadFault>
     Ok(HEADER_LEN + len)
 }
 
-/// The same of bytes that stand in two places, one after the other. Where the whole frame has come, its length is
-/// judged by its kind, too. All this takes no memory.
+/// The same of bytes that stand in two places, one after the other. Where the whole frame has come,
+/// its length is judged by its kind, too. All this takes no memory.
 pub fn split_frame_len(wide: bool, first: &[u8], rest: &[u8]) -> Result<usize, ReadFault>
     ensures ok { IfOk result (λ size. IsReadable wide (first.now ++ rest.now) size) }
     ensures judged { OnOk result (HasBadLength wide (first.now ++ rest.now) → ⊥) }
@@ -65,7 +67,8 @@ pub fn split_frame_len(wide: bool, first: &[u8], rest: &[u8]) -> Result<usize, R
     Ok(size)
 }
 
-/// Whether bytes that stand in two places, one after the other, begin with the frame Publish. This takes no memory.
+/// Whether bytes that stand in two places, one after the other, begin with the frame Publish. This
+/// takes no memory.
 pub fn begins_with_publish(first: &[u8], rest: &[u8]) -> bool
     ensures { IsTrue result ↔ HasPublishNext (Some first.now) rest.now }
 {
@@ -73,8 +76,8 @@ pub fn begins_with_publish(first: &[u8], rest: &[u8]) -> bool
     len == HEADER_LEN && header == PUBLISH
 }
 
-/// The first bytes of two slices, one after the other: as many as a header has, or all. The second number
-/// says how many.
+/// The first bytes of two slices, one after the other: as many as a header has, or all. The second
+/// number says how many.
 fn header_of(first: &[u8], rest: &[u8]) -> ([u8; HEADER_LEN], usize)
     ensures within { result.1 ≤ 5 }
     ensures bytes { take result.1 result.0 ≡ take 5 (first.now ++ rest.now) }
@@ -84,7 +87,8 @@ fn header_of(first: &[u8], rest: &[u8]) -> ([u8; HEADER_LEN], usize)
     (header, len)
 }
 
-/// Copies the first bytes of two slices, one after the other: as many as there is space for, or all. Answers how many.
+/// Copies the first bytes of two slices, one after the other: as many as there is space for, or
+/// all. Answers how many.
 pub fn fill_front(space: &mut [u8], first: &[u8], rest: &[u8]) -> usize
     ensures within { result ≤ length space.old }
     ensures len { length space.new ≡ length space.old }
@@ -101,8 +105,8 @@ pub fn fill_front(space: &mut [u8], first: &[u8], rest: &[u8]) -> usize
     len
 }
 
-/// The frame at the beginning and the bytes after it, if it is whole. `Memory` comes only where a frame
-/// stands there.
+/// The frame at the beginning and the bytes after it, if it is whole. `Memory` comes only where a
+/// frame stands there.
 pub fn frame_at<'a>(
     alloc: Global,
     wide: bool,

@@ -1,10 +1,14 @@
 //! Frames out of a stream that comes in pieces.
 
-ghost use Rattle.std.specs.Prelude.{◌≡◌, ◌≤◌, ◌↔◌, ◌-◌, IsTrue, true, ℕ, List, [], ◌∷◌, ◌++◌, length, take, drop, None, Some, IfOk, IfErr, IfSome, IfNone, OnOk, OnErr, vec_capacity};
+ghost use Rattle.std.specs.Prelude.{◌≡◌, ◌≤◌, ◌↔◌, ◌-◌, IsTrue, true, ℕ, List, [], ◌∷◌, ◌++◌};
+ghost use Rattle.std.specs.Prelude.{length, take, drop, None, Some, IfOk, IfErr, IfSome, IfNone};
+ghost use Rattle.std.specs.Prelude.{OnOk, OnErr, vec_capacity};
 ghost use Rattle.frame_codec.specs.declared.frame.Frame.{Frame};
 ghost use Rattle.frame_codec.specs.declared.ahead.QueryHead.{QueryHead};
 ghost use Rattle.frame_codec.specs.Frames.{encoding};
-ghost use Rattle.frame_codec.specs.Streams.{Feeds, FeedsFrame, TakesFrame, HasPublishNext, HasQueryNext, IsFrameOf, IsPartial, SeesFrame, StopsAt, unfinished_size};
+ghost use Rattle.frame_codec.specs.Streams.{Feeds, FeedsFrame, TakesFrame, HasPublishNext};
+ghost use Rattle.frame_codec.specs.Streams.{HasQueryNext, IsFrameOf, IsPartial, SeesFrame, StopsAt};
+ghost use Rattle.frame_codec.specs.Streams.{unfinished_size};
 
 use crate::ahead::{QueryHead, query_head};
 use crate::frame::Frame;
@@ -19,7 +23,8 @@ pub enum ReadFault {
     /// A payload of more than 16,777,216 bytes. It comes with the fourth byte of the frame.
     #[error("a payload of more than 16777216 bytes")]
     TooLong,
-    /// A kind that there is not; 0a and 8a are kinds of a wide database alone. It comes with the fifth byte of the frame.
+    /// A kind that there is not; 0a and 8a are kinds of a wide database alone. It comes with the
+    /// fifth byte of the frame.
     #[error("an unknown kind of frame")]
     UnknownKind,
     /// A payload that no frame of its kind has. It comes with the last byte of the payload.
@@ -55,15 +60,16 @@ impl<T: Drop> From<AllocFailed<T>> for ReadFault {
 
 /// What a reader took of a piece: nothing after the first frame that the piece completes.
 #[derive(Drop)]
-pub struct Taken {
+pub struct FrameRead {
     /// How many bytes of the piece, from its start on.
     pub count: usize,
     /// The frame that they complete. Without one the whole piece was taken.
     pub frame: Option<Frame>,
 }
 
-/// The bytes of an unfinished frame, or that the stream has failed: then it keeps none, and no room for any. Whether the stream is one
-/// of a wide database, which has two kinds of frames more, is said at each call.
+/// The bytes of an unfinished frame, or that the stream has failed: then it keeps none, and no room
+/// for any. Whether the stream is one of a wide database, which has two kinds of frames more, is
+/// said at each call.
 #[derive(Drop)]
 pub struct Reader {
     alloc: Global,
@@ -72,7 +78,8 @@ pub struct Reader {
 }
 
 impl Model for Reader {
-    ghost use Rattle.std.specs.Prelude.{◌≡◌, List, ℕ, Option, None, Some, cond, true, false, vec_capacity};
+    ghost use Rattle.std.specs.Prelude.{◌≡◌, List, ℕ, Option, None, Some, cond, true, false};
+    ghost use Rattle.std.specs.Prelude.{vec_capacity};
     ghost use Rattle.frame_codec.specs.Streams.{IsPartial};
 
     ghost Value = { Option (List ℕ) };
@@ -109,20 +116,22 @@ impl Reader {
         if self.failed { 0 } else { self.pending.len() }
     }
 
-    /// Whether what it keeps of an unfinished frame, and then a piece, begin with the frame Publish: so that feeding
-    /// the piece gives this frame first. This takes no memory, and changes nothing.
+    /// Whether what it keeps of an unfinished frame, and then a piece, begin with the frame
+    /// Publish: so that feeding the piece gives this frame first. This takes no memory, and changes
+    /// nothing.
     pub fn publishes_next(&self, piece: &[u8]) -> bool
         ensures { IsTrue result ↔ HasPublishNext self.now piece.now }
     {
         !self.failed && begins_with_publish(&self.pending, piece)
     }
 
-    /// What the next frame says before its words, if what it keeps of an unfinished frame, and then a piece, begin with a
-    /// whole query: so that feeding the piece gives this query first, unless memory is refused. This takes no memory, and
-    /// changes nothing.
+    /// What the next frame says before its words, if what it keeps of an unfinished frame, and then
+    /// a piece, begin with a whole query: so that feeding the piece gives this query first, unless
+    /// memory is refused. This takes no memory, and changes nothing.
     pub fn query_next(&self, piece: &[u8]) -> Option<QueryHead>
         ensures some { IfSome result (HasQueryNext self.now piece.now) }
-        ensures none { IfNone result ((head : QueryHead) → HasQueryNext self.now piece.now head → ⊥) }
+        ensures none { IfNone result
+            ((head : QueryHead) → HasQueryNext self.now piece.now head → ⊥) }
     {
         if self.failed {
             return None;
@@ -130,8 +139,8 @@ impl Reader {
         query_head(&self.pending, piece)
     }
 
-    /// The frame that feeding the piece would give first, if one is whole then. This changes nothing, and takes memory
-    /// for the frame and for its bytes.
+    /// The frame that feeding the piece would give first, if one is whole then. This changes
+    /// nothing, and takes memory for the frame and for its bytes.
     ///
     /// # Errors
     ///
@@ -148,19 +157,19 @@ impl Reader {
 
     /// Takes the next piece of the stream, and adds each frame that is whole now to `out`.
     ///
-    /// A fault comes with the piece that has the byte by which it is judged. The whole frames before
-    /// it are added, what had come of the bad one is given up with its room, and every later feed
-    /// answers `Failed`. At `Memory` too the frames added are whole frames of the stream, in order, and no
-    /// `TooLong` or `UnknownKind` stands after them, nor a whole payload of a length that no frame of its kind has:
-    /// these are judged before memory is taken. Only the rows of a Delta can't be judged, where memory to put its
-    /// payload together is refused.
+    /// A fault comes with the piece that has the byte by which it is judged. The whole frames
+    /// before it are added, what had come of the bad one is given up with its room, and every later
+    /// feed answers `Failed`. At `Memory` too the frames added are whole frames of the stream, in
+    /// order, and no `TooLong` or `UnknownKind` stands after them, nor a whole payload of a length
+    /// that no frame of its kind has: these are judged before memory is taken. Only the rows of a
+    /// Delta can't be judged, where memory to put its payload together is refused.
     pub fn feed(&mut self, wide: bool, piece: &[u8], out: &mut Vec<Frame>) -> Result<(), ReadFault>
         ensures { (frames : List Frame) × (out.new.items ≡ out.old.items ++ frames) ×
             Feeds wide self.old piece.now result frames self.new }
     {
         let mut rest = piece;
         'frames: loop {
-            let Taken { count, frame } = self.feed_frame(wide, rest)?;
+            let FrameRead { count, frame } = self.feed_frame(wide, rest)?;
             let Some(frame) = frame else {
                 return Ok(());
             };
@@ -173,14 +182,15 @@ impl Reader {
         }
     }
 
-    /// Takes the next piece of the stream up to the end of the first frame that is whole then, and answers that
-    /// frame and how many bytes were taken. Where no frame is whole the whole piece was taken.
+    /// Takes the next piece of the stream up to the end of the first frame that is whole then, and
+    /// answers that frame and how many bytes were taken. Where no frame is whole the whole piece
+    /// was taken.
     ///
     /// # Errors
     ///
-    /// As [`Reader::feed`], where the fault comes in the place of the first frame. What had come of that one is
-    /// given up with its room, and every later feed answers `Failed`.
-    pub fn feed_frame(&mut self, wide: bool, piece: &[u8]) -> Result<Taken, ReadFault>
+    /// As [`Reader::feed`], where the fault comes in the place of the first frame. What had come of
+    /// that one is given up with its room, and every later feed answers `Failed`.
+    pub fn feed_frame(&mut self, wide: bool, piece: &[u8]) -> Result<FrameRead, ReadFault>
         ensures { FeedsFrame wide self.old piece.now result self.new }
     {
         if self.failed {
@@ -213,14 +223,14 @@ fn add(frame: Frame, out: &mut Vec<Frame>) -> Result<(), AllocError>
     Ok(())
 }
 
-/// Reads a piece after an unfinished frame, up to the end of the first frame that is whole then, and keeps what
-/// has come of an unfinished one.
+/// Reads a piece after an unfinished frame, up to the end of the first frame that is whole then,
+/// and keeps what has come of an unfinished one.
 fn advance(
     alloc: Global,
     wide: bool,
     pending: &mut Vec<u8>,
     piece: &[u8],
-) -> Result<Taken, ReadFault>
+) -> Result<FrameRead, ReadFault>
     requires { IsPartial true pending.old.items }
     ensures ok { IfOk result (λ taken. TakesFrame wide (Some pending.old.items) piece.now taken
         (Some pending.new.items)) }
@@ -230,11 +240,11 @@ fn advance(
         return start(alloc, wide, pending, piece);
     }
     match finish(alloc, wide, pending, piece)? {
-        None => Ok(Taken {
+        None => Ok(FrameRead {
             count: piece.len(),
             frame: None,
         }),
-        Some((frame, rest)) => Ok(Taken {
+        Some((frame, rest)) => Ok(FrameRead {
             count: piece.len() - rest.len(),
             frame: Some(frame),
         }),
@@ -242,7 +252,12 @@ fn advance(
 }
 
 /// Reads a piece where no frame is unfinished.
-fn start(alloc: Global, wide: bool, pending: &mut Vec<u8>, piece: &[u8]) -> Result<Taken, ReadFault>
+fn start(
+    alloc: Global,
+    wide: bool,
+    pending: &mut Vec<u8>,
+    piece: &[u8],
+) -> Result<FrameRead, ReadFault>
     requires { pending.old.items ≡ [] }
     ensures ok { IfOk result (λ taken. TakesFrame wide (Some []) piece.now taken
         (Some pending.new.items)) }
@@ -251,12 +266,12 @@ fn start(alloc: Global, wide: bool, pending: &mut Vec<u8>, piece: &[u8]) -> Resu
     match frame_at(alloc, wide, piece)? {
         None => {
             pending.extend_from_slice(piece)?;
-            Ok(Taken {
+            Ok(FrameRead {
                 count: piece.len(),
                 frame: None,
             })
         }
-        Some((frame, rest)) => Ok(Taken {
+        Some((frame, rest)) => Ok(FrameRead {
             count: piece.len() - rest.len(),
             frame: Some(frame),
         }),
@@ -287,8 +302,8 @@ fn see_frame(
     }
 }
 
-/// Gives an unfinished frame what it lacks. Where it is whole then, its room is given back, and it is answered
-/// with what is left of the piece.
+/// Gives an unfinished frame what it lacks. Where it is whole then, its room is given back, and it
+/// is answered with what is left of the piece.
 fn finish<'a>(
     alloc: Global,
     wide: bool,
@@ -313,9 +328,9 @@ fn finish<'a>(
     Ok(Some((frame, rest)))
 }
 
-/// Gives an unfinished frame what it lacks: its header and its payload. Answers the rest of the piece. The
-/// header is judged before memory is taken, and so is the length of a payload that is whole now, so that a fault
-/// of these is never answered as `Memory`.
+/// Gives an unfinished frame what it lacks: its header and its payload. Answers the rest of the
+/// piece. The header is judged before memory is taken, and so is the length of a payload that is
+/// whole now, so that a fault of these is never answered as `Memory`.
 fn fill<'a>(wide: bool, pending: &mut Vec<u8>, piece: &'a [u8]) -> Result<&'a [u8], ReadFault>
     requires { IsPartial true pending.old.items }
     ensures whole { IfOk result (λ rest. pending.new.items ++ rest.now
@@ -330,8 +345,8 @@ fn fill<'a>(wide: bool, pending: &mut Vec<u8>, piece: &'a [u8]) -> Result<&'a [u
     top_up(pending, piece, size)
 }
 
-/// Moves bytes from the beginning of a piece after the pending ones, until these are enough or the piece
-/// is used up.
+/// Moves bytes from the beginning of a piece after the pending ones, until these are enough or the
+/// piece is used up.
 fn top_up<'a>(pending: &mut Vec<u8>, piece: &'a [u8], enough: usize) -> Result<&'a [u8], ReadFault>
     ensures moved { OnOk result (pending.new.items
         ≡ pending.old.items ++ take (enough - length pending.old.items) piece.now) }

@@ -1,12 +1,15 @@
 //! The encoding of a frame.
 
-ghost use Rattle.std.specs.Prelude.{◌≡◌, ◌≤◌, ◌<◌, ◌+◌, ◌*◌, ◌^◌, [], ◌∷◌, ◌++◌, All, length, vec_len, vec_capacity, IsOk, OnOk, OnErr};
-ghost use Rattle.frame_codec.specs.Frames.{HasFields, IsFrame, encoding, payload_of, payload_size, kind_of, payload_limit};
+ghost use Rattle.std.specs.Prelude.{◌≡◌, ◌≤◌, ◌<◌, ◌+◌, ◌*◌, ◌^◌, [], ◌∷◌, ◌++◌, All, length};
+ghost use Rattle.std.specs.Prelude.{vec_len, vec_capacity, IsOk, OnOk, OnErr};
+ghost use Rattle.frame_codec.specs.Frames.{HasFields, IsFrame, encoding, payload_of, payload_size};
+ghost use Rattle.frame_codec.specs.Frames.{kind_of, payload_limit};
 ghost use Rattle.frame_codec.specs.Numbers.{number_bytes, word_bytes};
-ghost use Rattle.frame_codec.specs.declared.frame.Frame.TheVariants.{Changes, Delta, HintPart, Load};
+ghost use Rattle.frame_codec.specs.declared.frame.Frame.TheVariants.{Changes, Delta, HintPart};
+ghost use Rattle.frame_codec.specs.declared.frame.Frame.TheVariants.{Load};
 
 use crate::frame::{Bytes, Frame, Rows, Words};
-use crate::numbers::{put, put_u16, put_u32, put_u64, put_words};
+use crate::word_bytes::{put, put_u16, put_u32, put_u64, put_words};
 use std::alloc::AllocError;
 
 // The kind of a part of a hint.
@@ -262,7 +265,8 @@ fn put_scheme_words(out: &mut Vec<u8>, scheme: u8, version: u64, words: &Words)
     put_words(out, words.as_slice());
 }
 
-/// Adds the length and the kind of a frame, and gives `out` room for its payload. Nothing is added at an `Err`.
+/// Adds the length and the kind of a frame, and gives `out` room for its payload. Nothing is added
+/// at an `Err`.
 fn put_head(out: &mut Vec<u8>, kind: u8, len: usize) -> Result<(), AllocError>
     requires { len ≤ payload_limit }
     ensures ok { OnOk result (out.new.items ≡

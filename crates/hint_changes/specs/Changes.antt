@@ -21,8 +21,8 @@ record_digit l bytes d = digit l.width (number_of 8 bytes) d
 abbrev pub digit_change : Shape → ChangedRecord → ℕ → ℕ
 digit_change l c d = record_digit l c.new d + (2 ^ 32 - record_digit l c.old d)
 
--- word k of row r of a hint after a record changed: if the record has a digit in this row, its change is added, times word k of the
--- public matrix's row of the record's column
+-- word k of row r of a hint after a record changed: if the record has a digit in this row, its
+-- change is added, times word k of the public matrix's row of the record's column
 abbrev pub word_after_change : Shape → WordMatrix → ℕ → ℕ → ChangedRecord → ℕ → ℕ
 word_after_change l a1 r k c x =
     if r / digits_per_record l == c.index % l.groups
@@ -37,12 +37,14 @@ word_after l a1 r k (c ∷ more) x = word_after l a1 r k more (word_after_change
 abbrev pub moved : Shape → WordMatrix → List ChangedRecord → WordMatrix → WordMatrix
 moved l a1 changes hint = matrix_of hint.rows hint.cols (λ r k. word_after l a1 r k changes (entry hint r k))
 
--- word k of row first + d of a hint, moved by the change of digit d, times word k of one row of a public matrix
+-- word k of row first + d of a hint, moved by the change of digit d, times word k of one row of a
+-- public matrix
 abbrev pub moved_by : WordMatrix → WordMatrix → ℕ → ℕ → ℕ → List ℕ → List ℕ → ℕ
 moved_by hint public first d k old new =
     (entry hint (first + d) k + (slice_index new d + (2 ^ 32 - slice_index old d)) * entry public 0 k) % 2 ^ 32
 
--- so many rows of a hint, from one on, were moved by digits that changed, and the others are as before
+-- so many rows of a hint, from one on, were moved by digits that changed, and the others are as
+-- before
 pub record HaveMoved (before now public : WordMatrix) (first count : ℕ) (old new : List ℕ) : Type 0 where
   pub rows : now.rows ≡ before.rows
   pub cols : now.cols ≡ before.cols
@@ -65,7 +67,8 @@ AreChangesOf l [] records = ⊤
 AreChangesOf l (c ∷ more) records =
     (c.index < l.count) × (c.index < length records) × (record_at records c.index ≡ c.old) × AreChangesOf l more (slice_set records c.index c.new)
 
--- a change that leads from one list of records to another: its record has the old bytes in the one, and the new ones in the other
+-- a change that leads from one list of records to another: its record has the old bytes in the one,
+-- and the new ones in the other
 pub record IsChangeBetween (l : Shape) (before after : List (List ℕ)) (c : ChangedRecord) : Type 0 where
   pub inside : c.index < l.count
   pub there : c.index < length before
@@ -77,7 +80,8 @@ abbrev pub NameOnce : List ChangedRecord → Type 0
 NameOnce [] = ⊤
 NameOnce (c ∷ more) = All (λ d. c.index ≢ d.index) more × NameOnce more
 
--- changes that lead from one list of records to another, in any order: each record that differs is named, and none twice
+-- changes that lead from one list of records to another, in any order: each record that differs is
+-- named, and none twice
 pub record LeadTo (l : Shape) (changes : List ChangedRecord) (before after : List (List ℕ)) : Type 0 where
   pub each : All (IsChangeBetween l before after) changes
   pub once : NameOnce changes
@@ -98,7 +102,8 @@ changes_at before after [] = []
 changes_at before after (i ∷ more) =
     unless_same (pointwise nat_eq (record_at before i) (record_at after i)) (change_of before after i) (changes_at before after more)
 
--- the changes from one list of records to another that is as long: of each record that differs, ascending
+-- the changes from one list of records to another that is as long: of each record that differs,
+-- ascending
 abbrev pub changes_between : List (List ℕ) → List (List ℕ) → List ChangedRecord
 changes_between before after = changes_at before after (range_with_len 0 (length after))
 

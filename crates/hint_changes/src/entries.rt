@@ -1,11 +1,13 @@
 //! Changes as they stand in bytes.
 
-ghost use Rattle.std.specs.Prelude.{◌≡◌, ◌↔◌, ℕ, ◌+◌, ◌*◌, ◌/◌, ◌%◌, ◌<◌, ◌≤◌, IsTrue, length, take, drop};
+ghost use Rattle.std.specs.Prelude.{◌≡◌, ◌↔◌, ℕ, ◌+◌, ◌*◌, ◌/◌, ◌%◌, ◌<◌, ◌≤◌, IsTrue, length};
+ghost use Rattle.std.specs.Prelude.{take, drop};
 ghost use Rattle.byteorder.specs.Endian.{little_number};
 ghost use Rattle.seed_expand.specs.Words.{public_rows};
 ghost use Rattle.digit_pack.specs.Layout.{digit_cols, digit_rows};
 ghost use Rattle.hint_changes.specs.Changes.{moved};
-ghost use Rattle.hint_changes.specs.Entries.{AreEntries, change_in, changes_in, entry_count, entry_len, number_in};
+ghost use Rattle.hint_changes.specs.Entries.{AreEntries, change_in, changes_in, entry_count};
+ghost use Rattle.hint_changes.specs.Entries.{entry_len, number_in};
 
 use crate::moving::move_record;
 use crate::public_row::PublicRow;
@@ -13,7 +15,8 @@ use byteorder::{ByteOrder, LittleEndian};
 use digit_pack::Layout;
 use matrix_u32::{Kernel, Matrix};
 
-/// How many bytes an entry has, for records of so many: a record's number in four, and its old and its new bytes.
+/// How many bytes an entry has, for records of so many: a record's number in four, and its old and
+/// its new bytes.
 pub fn entry_len(record_len: usize) -> usize
     requires { record_len ≤ 256 }
     ensures value { result ≡ entry_len record_len }
@@ -32,7 +35,8 @@ fn number_in(bytes: &[u8], len: usize, k: usize) -> usize
     LittleEndian::read_u32(&bytes[at..]) as usize
 }
 
-/// Whether bytes are whole entries, one after another, of records that there are, each with a greater number than the one before.
+/// Whether bytes are whole entries, one after another, of records that there are, each with a
+/// greater number than the one before.
 pub fn are_entries(layout: &Layout, bytes: &[u8]) -> bool
     ensures { IsTrue result ↔ AreEntries layout.now bytes.now }
 {
@@ -52,8 +56,9 @@ pub fn are_entries(layout: &Layout, bytes: &[u8]) -> bool
     true
 }
 
-/// Moves a SimplePIR hint by the changes in entries, one after another, under the first public matrix of a seed. Each row of this matrix is
-/// made once for all changes in its column, since entries are ascending. It takes no memory.
+/// Moves a SimplePIR hint by the changes in entries, one after another, under the first public
+/// matrix of a seed. Each row of this matrix is made once for all changes in its column, since
+/// entries are ascending. It takes no memory.
 pub fn move_by_entries<K: Kernel>(
     kernel: K,
     layout: &Layout,

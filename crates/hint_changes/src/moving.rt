@@ -3,21 +3,21 @@
 ghost use Rattle.std.specs.Prelude.{◌≡◌, ℕ, ◌+◌, ◌%◌, ◌<◌, ◌≤◌, ◌∷◌, [], length};
 ghost use Rattle.matrix_u32.specs.Matrix.{WordMatrix};
 ghost use Rattle.seed_expand.specs.Words.{public_rows};
-ghost use Rattle.digit_pack.specs.Layout.{column_of, digit_cols, digit_rows, digits_per_record, record_digits};
+ghost use Rattle.digit_pack.specs.Layout.{column_of, digit_cols, digit_rows, digits_per_record};
+ghost use Rattle.digit_pack.specs.Layout.{record_digits};
 ghost use Rattle.hint_changes.specs.Changes.{HaveMoved, moved, rows_in_place};
 
 use crate::public_row::PublicRow;
-use digit_pack::{Layout, pack};
+use digit_pack::{Layout, digit_buffer, pack};
 use hint_update::update_simple;
 use matrix_u32::{Kernel, Matrix};
 
-/// The most digits that a record has.
-const MOST_DIGITS: usize = 342;
-
-/// Moves a SimplePIR hint by record `index`, which had bytes `old` in the digits and has `new`, under the first public matrix of a seed,
-/// of which `public` becomes the row of the record's column. It takes no memory.
+/// Moves a SimplePIR hint by record `index`, which had bytes `old` in the digits and has `new`,
+/// under the first public matrix of a seed, of which `public` becomes the row of the record's
+/// column. It takes no memory.
 ///
-/// Each row of the hint in which a digit of the record changed has the change of that digit times this row added; the others stay.
+/// Each row of the hint in which a digit of the record changed has the change of that digit times
+/// this row added; the others stay.
 pub fn move_record<K: Kernel>(
     kernel: K,
     layout: &Layout,
@@ -44,8 +44,9 @@ pub fn move_record<K: Kernel>(
     move_digits(kernel, layout, public.words(), hint, first, old, new);
 }
 
-/// Moves only the rows of a hint in which the record has its digits, as many as it has digits: what [`move_record`] would make of them.
-/// A client that keeps its hint in a file moves those rows alone that it reads.
+/// Moves only the rows of a hint in which the record has its digits, as many as it has digits: what
+/// [`move_record`] would make of them. A client that keeps its hint in a file moves those rows
+/// alone that it reads.
 pub fn move_record_rows<K: Kernel>(
     kernel: K,
     layout: &Layout,
@@ -93,18 +94,13 @@ fn move_digits<K: Kernel>(
         (record_digits layout.now old.now) (record_digits layout.now new.now) }
 {
     let count = layout.digits_per_record();
-    let mut before = digit_room();
-    let mut after = digit_room();
+    let mut before = digit_buffer();
+    let mut after = digit_buffer();
     let before = &mut before[..count];
     let after = &mut after[..count];
     pack(layout, old, before);
     pack(layout, new, after);
     move_rows(kernel, hint, public, first, before, after);
-}
-
-// Room for the digits of a record. They are not said, which keeps them out of the proofs.
-fn digit_room() -> [u32; MOST_DIGITS] {
-    [0; MOST_DIGITS]
 }
 
 // Moves rows of a hint, from one on, by digits that change, each times the one row of `public`.

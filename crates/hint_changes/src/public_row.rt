@@ -8,8 +8,8 @@ use seed_expand::{WordSource, expand, fill_words, source_gives_words};
 use std::alloc::{AllocError, Global};
 use std::marker::Model;
 
-/// One row of the first public matrix of a seed, which is made when it is wanted: that of the column of digits of which a record
-/// changed. A contract sees which one it is.
+/// One row of the first public matrix of a seed, which is made when it is wanted: that of the
+/// column of digits of which a record changed. A contract sees which one it is.
 #[derive(Drop)]
 pub struct PublicRow {
     seed: [u8; 32],

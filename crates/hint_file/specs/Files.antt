@@ -21,7 +21,8 @@ old_hint_magic = codes "PIRHINT2"
 abbrev pub sealed : List ℕ → List ℕ
 sealed bytes = bytes ++ sha256 bytes
 
--- what names a store: the fields of its plan, each number as its bytes, and its public seed; 41 bytes
+-- what names a store: the fields of its plan, each number as its bytes, and its public seed; 41
+-- bytes
 unfoldable pub plan_bytes : Plan → List ℕ
 plan_bytes p =
     number_bytes 2 p.form
@@ -31,7 +32,8 @@ plan_bytes p =
     ++ number_bytes 2 p.dimension
     ++ p.seed
 
--- the fields of a hint's file, each number as its bytes: what the server reported last, and which hint this is
+-- the fields of a hint's file, each number as its bytes: what the server reported last, and which
+-- hint this is
 unfoldable pub field_bytes : HintFields → List ℕ
 field_bytes f =
     plan_bytes f.known.plan
@@ -46,8 +48,8 @@ field_bytes f =
 abbrev pub part_count : ℕ → ℕ
 part_count len = (len + 262143) / 262144
 
--- the digests of the first parts, so many, one after another; each part has 262,144 bytes, as those of the parts in which a hint is sent, and the last one
--- may have fewer
+-- the digests of the first parts, so many, one after another; each part has 262,144 bytes, as those
+-- of the parts in which a hint is sent, and the last one may have fewer
 unfoldable pub first_digests : ℕ → List ℕ → List ℕ
 first_digests zero bytes = []
 first_digests (suc n) bytes = sha256 (take 262144 bytes) ++ first_digests n (drop 262144 bytes)
@@ -56,7 +58,8 @@ first_digests (suc n) bytes = sha256 (take 262144 bytes) ++ first_digests n (dro
 abbrev pub part_digests : List ℕ → List ℕ
 part_digests bytes = first_digests (part_count (length bytes)) bytes
 
--- a head with these bytes in front, all that stands before the words: the fields after them, the digests of the parts of the words, and the digest of all that
+-- a head with these bytes in front, all that stands before the words: the fields after them, the
+-- digests of the parts of the words, and the digest of all that
 abbrev pub head_after : List ℕ → HintFields → List ℕ → List ℕ
 head_after front f digests = sealed (front ++ (field_bytes f ++ digests))
 
@@ -98,7 +101,8 @@ pub record IsKeepable (known : ServerInfo) (hint : Hint) : Type 0 where
 abbrev pub HasDigests : HintFields → List ℕ → Type 0
 HasDigests f digests = length digests ≡ 32 * part_count (4 * (f.rows * f.cols))
 
--- the file of this head is no newer than a hint of a version with what the server reported: neither its hint nor what it says was reported is of a later one
+-- the file of this head is no newer than a hint of a version with what the server reported: neither
+-- its hint nor what it says was reported is of a later one
 pub record IsNoNewer (f : HintFields) (known : ServerInfo) (version : ℕ) : Type 0 where
   pub reported : f.known.version ≤ known.version
   pub version_kept : f.version ≤ version

@@ -16,8 +16,8 @@ pub record IsHeadOf (known : ServerInfo) (h : Hint) (head : KeptHead) : Type 0 w
   pub fields : head.fields ≡ fields_of known h
   pub digests : head.digests.items ≡ part_digests (word_bytes h.matrix.words)
 
--- The bytes that the file of a hint has at the place of a record's parts are these parts by its head; and the hint that is read of them has the record's rows
--- of that hint.
+-- The bytes that the file of a hint has at the place of a record's parts are these parts by its
+-- head; and the hint that is read of them has the record's rows of that hint.
 pub record ReadsTheRows (now : ServerInfo) (h : Hint) (head : KeptHead) (i : ℕ) (bytes : List ℕ) : Type 0 where
   pub parts : AreParts head (span_for head.fields now i) bytes
   pub rows : (part : Hint) → IsPartlyRead head (span_for head.fields now i) bytes part → HasRowsOf now h i part
@@ -27,6 +27,7 @@ abbrev pub RecordRowsAreRead : Type 0
 RecordRowsAreRead = (known now : ServerInfo) (h : Hint) (head : KeptHead) (i : ℕ) (bytes : List ℕ) → IsHeadOf known h head → HasRowsFor head.fields now i →
     bytes ≡ bytes_at (word_bytes h.matrix.words) (span_for head.fields now i) → ReadsTheRows now h head i bytes
 
--- Whether a kept hint has the rows of a record that there is depends on the hint and on what is known, and is the same for each record.
+-- Whether a kept hint has the rows of a record that there is depends on the hint and on what is
+-- known, and is the same for each record.
 abbrev pub EachRecordAlike : Type 0
 EachRecordAlike = (f : HintFields) (now : ServerInfo) (i : ℕ) → i < now.count → HasRowsFor f now i ↔ Serves f now

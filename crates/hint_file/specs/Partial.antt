@@ -1,4 +1,5 @@
--- The file of a hint of which only the first parts are there. Its layout is that of the whole file, so that it becomes one in its place.
+-- The file of a hint of which only the first parts are there. Its layout is that of the whole file,
+-- so that it becomes one in its place.
 use Rattle.std.specs.Prelude.{◌≡◌, ◌≤◌, ◌*◌, ℕ, List, ◌++◌, codes, replicate}
 use Rattle.matrix_u32.specs.Matrix.{most_words}
 use Rattle.digit_pack.specs.Layout.{IsLayout}
@@ -14,8 +15,8 @@ use Rattle.hint_file.specs.Files.{field_bytes, part_count}
 unfoldable pub partial_magic : List ℕ
 partial_magic = codes "PIRPART1"
 
--- what stands before the digests in a partial file: its kind, and which hint it is to have. The parts of a file that begins so are those of one
--- version of one store in one scheme.
+-- what stands before the digests in a partial file: its kind, and which hint it is to have. The
+-- parts of a file that begins so are those of one version of one store in one scheme.
 abbrev pub partial_front : HintFields → List ℕ
 partial_front f = partial_magic ++ field_bytes f
 

@@ -40,7 +40,8 @@ pub record HasParts (head : KeptHead) (s : PartSpan) : Type 0 where
   pub start : 65536 * s.first ≤ words_of head.fields
   pub inside : s.end ≤ part_count (4 * words_of head.fields)
 
--- bytes of the parts of a span, by the head: as many as the parts have, with the digests that stand there
+-- bytes of the parts of a span, by the head: as many as the parts have, with the digests that stand
+-- there
 pub record AreParts (head : KeptHead) (s : PartSpan) (bytes : List ℕ) : Type 0 where
   pub parts : HasParts head s
   pub count : length bytes ≡ span_len (4 * words_of head.fields) s
@@ -51,14 +52,16 @@ abbrev pub among_zeros : ℕ → ℕ → List ℕ → List ℕ
 among_zeros total start words =
     take start (replicate total 0) ++ (words ++ drop (start + length words) (replicate total 0))
 
--- the hint of a head of which the parts of a span were read, of these bytes: its other words are zeros
+-- the hint of a head of which the parts of a span were read, of these bytes: its other words are
+-- zeros
 pub record IsPartlyRead (head : KeptHead) (s : PartSpan) (bytes : List ℕ) (hint : Hint) : Type 0 where
   pub words : List ℕ
   pub each : All (λ w. w < 2 ^ 32) words
   pub read : word_bytes words ≡ bytes
   pub is : hint ≡ with_words head.fields (among_zeros (words_of head.fields) (65536 * s.first) words)
 
--- a hint of these fields serves a client that knows this: it is of SimplePIR, of the plan and the version known, with the rows and columns of its layout
+-- a hint of these fields serves a client that knows this: it is of SimplePIR, of the plan and the
+-- version known, with the rows and columns of its layout
 pub record Serves (f : HintFields) (now : ServerInfo) : Type 0 where
   pub scheme : f.scheme ≡ Simple
   pub version : f.version ≡ now.version
@@ -67,7 +70,8 @@ pub record Serves (f : HintFields) (now : ServerInfo) : Type 0 where
   pub rows : f.rows ≡ digit_rows (shape_known now)
   pub cols : f.cols ≡ now.plan.dimension
 
--- the hint serves, and the version has a record i: that it has the record's rows depends on the record in no other way
+-- the hint serves, and the version has a record i: that it has the record's rows depends on the
+-- record in no other way
 pub record HasRowsFor (f : HintFields) (now : ServerInfo) (i : ℕ) : Type 0 where
   pub serves : Serves f now
   pub index : i < now.count

@@ -15,7 +15,8 @@ abbrev pub scheme_text : Scheme → List ℕ
 scheme_text Simple = codes "simple"
 scheme_text Double = codes "double"
 
--- the name of the file of a hint in a folder, one for each scheme and store: the store is named by the digest of its plan in hex
+-- the name of the file of a hint in a folder, one for each scheme and store: the store is named by
+-- the digest of its plan in hex
 abbrev pub file_name : Scheme → Plan → List ℕ
 file_name scheme plan = scheme_text scheme ++ (codes "-" ++ (encode_lower (sha256 (plan_bytes plan)) ++ codes ".hint"))
 

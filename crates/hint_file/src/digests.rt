@@ -4,8 +4,8 @@ ghost use Rattle.std.specs.Prelude.{◌≡◌, IfOk};
 ghost use Rattle.frame_codec.specs.Numbers.{word_bytes};
 ghost use Rattle.hint_file.specs.Files.{part_digests};
 
-use crate::numbers::add_words;
 use crate::sealing::digest_of;
+use crate::word_bytes::add_words;
 use pir_schemes::PART_WORDS;
 use std::alloc::{AllocError, Global};
 
@@ -30,7 +30,8 @@ pub fn digests_of(alloc: Global, bytes: &[u8]) -> Result<Vec<u8>, AllocError>
     Ok(digests)
 }
 
-/// The digests of all parts of the bytes of some words, one after another. No more than the bytes of one part stand in memory.
+/// The digests of all parts of the bytes of some words, one after another. No more than the bytes
+/// of one part stand in memory.
 ///
 /// # Errors
 ///

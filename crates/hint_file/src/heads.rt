@@ -1,10 +1,13 @@
 //! The head of a hint's file: all that stands before the hint's words.
 
-ghost use Rattle.std.specs.Prelude.{◌≡◌, ◌≢◌, ◌≤◌, ◌<◌, ◌+◌, ◌*◌, ◌^◌, ◌++◌, ◌↔◌, ℕ, List, length, slice_index, IfOk, IfSome, IfNone, IsTrue, MatchOption, IsErrOf};
+ghost use Rattle.std.specs.Prelude.{◌≡◌, ◌≢◌, ◌≤◌, ◌<◌, ◌+◌, ◌*◌, ◌^◌, ◌++◌, ◌↔◌, ℕ, List, length};
+ghost use Rattle.std.specs.Prelude.{slice_index, IfOk, IfSome, IfNone, IsTrue, MatchOption};
+ghost use Rattle.std.specs.Prelude.{IsErrOf};
 ghost use Rattle.matrix_u32.specs.Matrix.{most_words};
 ghost use Rattle.client_core.specs.declared.state.ServerInfo.{ServerInfo};
 ghost use Rattle.hint_file.specs.declared.heads.HintFields.{HintFields};
-ghost use Rattle.hint_file.specs.Files.{hint_magic, plan_bytes, field_bytes, head_after, head_bytes, part_count, AreKeepable, HasDigests, IsNoNewer};
+ghost use Rattle.hint_file.specs.Files.{hint_magic, plan_bytes, field_bytes, head_after};
+ghost use Rattle.hint_file.specs.Files.{head_bytes, part_count, AreKeepable, HasDigests, IsNoNewer};
 
 use crate::digests::PART_LEN;
 use crate::sealing::{DIGEST_LEN, MAGIC_LEN, after, first_32, seal, unsealed};
@@ -36,7 +39,8 @@ pub struct HintFields {
     pub cols: usize,
 }
 
-/// The head of a hint's file: which hint it has, and the digests of the parts of its words, one after another.
+/// The head of a hint's file: which hint it has, and the digests of the parts of its words, one
+/// after another.
 #[derive(Drop)]
 pub struct KeptHead {
     pub fields: HintFields,
@@ -268,8 +272,8 @@ pub fn head_in(alloc: Global, bytes: &[u8]) -> Result<KeptHead, HintError>
     head_after(alloc, &front, bytes)
 }
 
-/// Whether the file of this head is no newer than a hint of a version with what the server had reported: whether it may be replaced by
-/// theirs.
+/// Whether the file of this head is no newer than a hint of a version with what the server had
+/// reported: whether it may be replaced by theirs.
 pub fn is_no_newer(head: &KeptHead, known: &ServerInfo, version: u64) -> bool
     ensures { IsTrue result ↔ IsNoNewer head.now.fields known.now version }
 {

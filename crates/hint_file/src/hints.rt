@@ -8,8 +8,8 @@ ghost use Rattle.hint_file.specs.Files.{fields_of, hint_bytes};
 
 use crate::digests::{PART_LEN, digests_of_words};
 use crate::heads::{FRONT_LEN, HintFields, head_bytes};
-use crate::numbers::add_words;
 use crate::sealing::DIGEST_LEN;
+use crate::word_bytes::add_words;
 use byteorder::{ByteOrder, LittleEndian};
 use client_core::{Hint, ServerInfo};
 use pir_schemes::PART_WORDS;
@@ -24,7 +24,8 @@ pub struct KeptHint {
     pub hint: Hint,
 }
 
-/// The file of a hint: its head, and the hint's words, whose bytes are made part by part where they are written.
+/// The file of a hint: its head, and the hint's words, whose bytes are made part by part where they
+/// are written.
 #[derive(Drop)]
 pub struct HintFile<'a> {
     pub head: Vec<u8>,
@@ -57,7 +58,8 @@ impl HintFile<'_> {
     ///
     /// # Errors
     ///
-    /// `Write` when a write failed, `Memory` when memory was refused. How many bytes went out is not said.
+    /// `Write` when a write failed, `Memory` when memory was refused. How many bytes went out is
+    /// not said.
     pub fn write_to<W: Write>(&self, alloc: Global, writer: &mut W) -> Result<(), WriteFault>
         ensures { OnOk result (Appends (W.contents writer.old) (W.contents writer.new)
             (self.now.head.items ++ word_bytes self.now.words.now)) }

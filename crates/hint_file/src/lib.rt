@@ -1,22 +1,24 @@
-//! The file of a hint, as bytes: which hint it is, what the server had reported, and the hint's words. It holds no secret.
+//! The file of a hint, as bytes: which hint it is, what the server had reported, and the hint's
+//! words. It holds no secret.
 //!
-//! `specs/Files.antt` defines the bytes. What is read is what was written: the file has a digest of its head and one of each
-//! part of its words, and other bytes are refused. So the parts with the rows of one record can be read alone. Nothing here
-//! knows a folder: whoever keeps a hint, in a file or elsewhere, writes and reads these bytes.
+//! `specs/Files.antt` defines the bytes. What is read is what was written: the file has a digest of
+//! its head and one of each part of its words, and other bytes are refused. So the parts with the
+//! rows of one record can be read alone. Nothing here knows a folder: whoever keeps a hint, in a
+//! file or elsewhere, writes and reads these bytes.
 //!
-//! Its tests are in tests/long/hint_file and in `session_tests`.
+//! Its tests are in tests/long/hint_file and in `tests_session`.
 #![tactic(auto)]
 
 mod digests;
 mod heads;
 mod hints;
 pub mod laws;
-mod numbers;
 mod partial;
 mod parts;
 mod reading;
 mod sealing;
 mod texts;
+mod word_bytes;
 
 pub use heads::{HintError, HintFields, KeptHead, MOST_HEAD, head_in, is_no_newer};
 pub use hints::{HintFile, KeptHint, WriteFault, hint_file, hint_file_len};

@@ -25,8 +25,9 @@ fn partial_magic() -> [u8; MAGIC_LEN]
     *b"PIRPART1"
 }
 
-/// The head of the hint of the version known, in a scheme, before any part has come: there are zeros in place of the digests. None
-/// exactly when what is known has no layout, or no hint that there is.
+/// The head of the hint of the version known, in a scheme, before any part has come: there are
+/// zeros in place of the digests. None exactly when what is known has no layout, or no hint that
+/// there is.
 ///
 /// # Errors
 ///
@@ -93,7 +94,8 @@ pub fn part_digest(bytes: &[u8]) -> [u8; DIGEST_LEN]
     digest_of(bytes)
 }
 
-/// Whether these are the bytes of the parts of a span, by their number and by the digests that stand in a head.
+/// Whether these are the bytes of the parts of a span, by their number and by the digests that
+/// stand in a head.
 ///
 /// # Errors
 ///
@@ -135,8 +137,8 @@ pub fn part_ask(alloc: Global, head: &KeptHead, part: u32) -> Result<Vec<u8>, Al
     Ok(bytes)
 }
 
-/// The frame of a part of the hint, if it had no words: the frame that comes has another length in its first 4 bytes, and words after
-/// these 18.
+/// The frame of a part of the hint, if it had no words: the frame that comes has another length in
+/// its first 4 bytes, and words after these 18.
 ///
 /// # Errors
 ///

@@ -1,14 +1,16 @@
 //! Some parts of a hint that is kept: those with the rows of one record.
 
-ghost use Rattle.std.specs.Prelude.{◌≡◌, ◌+◌, ◌-◌, ◌*◌, ◌↔◌, length, take, drop, IfOk, IfErr, IsTrue, MatchOption, IsErrOf};
+ghost use Rattle.std.specs.Prelude.{◌≡◌, ◌+◌, ◌-◌, ◌*◌, ◌↔◌, length, take, drop, IfOk, IfErr};
+ghost use Rattle.std.specs.Prelude.{IsTrue, MatchOption, IsErrOf};
 ghost use Rattle.digit_pack.specs.Layout.{IsLayout, digit_rows};
 ghost use Rattle.client_core.specs.States.{shape_known};
-ghost use Rattle.hint_file.specs.Reading.{AreParts, HasParts, HasRowsFor, IsPartlyRead, Serves, span_for, span_len, words_of};
+ghost use Rattle.hint_file.specs.Reading.{AreParts, HasParts, HasRowsFor, IsPartlyRead, Serves};
+ghost use Rattle.hint_file.specs.Reading.{span_for, span_len, words_of};
 
 use crate::digests::{PART_LEN, digests_of};
 use crate::heads::{FRONT_LEN, HintError, HintFields, KeptHead, digests_len};
-use crate::numbers::words_among_zeros;
 use crate::sealing::DIGEST_LEN;
+use crate::word_bytes::words_among_zeros;
 use client_core::{Hint, Scheme, ServerInfo};
 use matrix_u32::Matrix;
 use pir_schemes::PART_WORDS;
@@ -43,16 +45,17 @@ fn has_layout(fields: &HintFields, now: &ServerInfo) -> bool
     }
 }
 
-/// Whether the hint of a head serves a client that knows this of the server: it is of SimplePIR, of the plan and the version known,
-/// with the rows and columns of its layout. What the client sends next depends on this, and not on the record that it wants.
+/// Whether the hint of a head serves a client that knows this of the server: it is of SimplePIR, of
+/// the plan and the version known, with the rows and columns of its layout. What the client sends
+/// next depends on this, and not on the record that it wants.
 pub fn serves(head: &KeptHead, now: &ServerInfo) -> bool
     ensures { IsTrue result ↔ Serves head.now.fields now.now }
 {
     is_current(&head.fields, now) && has_layout(&head.fields, now)
 }
 
-/// The parts of the hint kept that have the rows with which an answer for record `index` is read. None exactly when the hint does
-/// not serve, or the version has no such record.
+/// The parts of the hint kept that have the rows with which an answer for record `index` is read.
+/// None exactly when the hint does not serve, or the version has no such record.
 pub fn parts_for(head: &KeptHead, now: &ServerInfo, index: u32) -> Option<PartSpan>
     ensures { MatchOption result (¬ HasRowsFor head.now.fields now.now index)
         (λ span. HasRowsFor head.now.fields now.now index
@@ -73,8 +76,8 @@ pub fn parts_for(head: &KeptHead, now: &ServerInfo, index: u32) -> Option<PartSp
     })
 }
 
-/// Where the parts of a span stand in the file of this head, and how many bytes they have; none exactly when the hint has no such
-/// parts.
+/// Where the parts of a span stand in the file of this head, and how many bytes they have; none
+/// exactly when the hint has no such parts.
 pub fn place_of(head: &KeptHead, span: PartSpan) -> Option<(u64, usize)>
     ensures { MatchOption result (¬ HasParts head.now span) (λ place. HasParts head.now span
         × (place.0 ≡ 118 + length head.now.digests.items + 262144 * span.first)
@@ -94,7 +97,8 @@ pub fn place_of(head: &KeptHead, span: PartSpan) -> Option<(u64, usize)>
     Some(((before + start) as u64, end - start))
 }
 
-/// The hint of a head, of which the parts of a span are read: these are their bytes. Its other words are zeros.
+/// The hint of a head, of which the parts of a span are read: these are their bytes. Its other
+/// words are zeros.
 ///
 /// # Errors
 ///

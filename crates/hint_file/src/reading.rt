@@ -1,19 +1,21 @@
 //! The file of a hint, read from its beginning to its end.
 
-ghost use Rattle.std.specs.Prelude.{◌≡◌, ◌≢◌, ◌≤◌, ◌<◌, ◌*◌, ◌++◌, ℕ, List, length, min, vec_len, IfOk, OnOk, IfSome, IsErrOf};
+ghost use Rattle.std.specs.Prelude.{◌≡◌, ◌≢◌, ◌≤◌, ◌<◌, ◌*◌, ◌++◌, ℕ, List, length, min, vec_len};
+ghost use Rattle.std.specs.Prelude.{IfOk, OnOk, IfSome, IsErrOf};
 ghost use Rattle.std.specs.Io.KnownBytes.{Consumes, IsAtEnd};
 ghost use Rattle.frame_codec.specs.Numbers.{word_bytes};
 ghost use Rattle.matrix_u32.specs.Matrix.{most_words};
 ghost use Rattle.client_core.specs.declared.state.ServerInfo.{ServerInfo};
 ghost use Rattle.client_core.specs.declared.state.Hint.{Hint};
 ghost use Rattle.hint_file.specs.declared.heads.HintFields.{HintFields};
-ghost use Rattle.hint_file.specs.Files.{old_hint_magic, head_after, file_after, hint_bytes, old_hint_bytes, AreKeepable, HasDigests, IsKeepable};
+ghost use Rattle.hint_file.specs.Files.{old_hint_magic, head_after, file_after, hint_bytes};
+ghost use Rattle.hint_file.specs.Files.{old_hint_bytes, AreKeepable, HasDigests, IsKeepable};
 
 use crate::digests::digests_of_words;
 use crate::heads::{FIELDS_LEN, HintError, KeptHead, digests_len, fields_in, head_after, magic};
 use crate::hints::KeptHint;
-use crate::numbers::add_read;
 use crate::sealing::{DIGEST_LEN, MAGIC_LEN, after};
+use crate::word_bytes::add_read;
 use client_core::Hint;
 use matrix_u32::Matrix;
 use pir_schemes::PART_WORDS;
@@ -61,7 +63,8 @@ fn old_magic() -> [u8; MAGIC_LEN]
     *b"PIRHINT2"
 }
 
-// The head that goes on, after the bytes in front, with what the reader has; `Damaged` exactly when no head does.
+// The head that goes on, after the bytes in front, with what the reader has; `Damaged` exactly when
+// no head does.
 fn read_head<R: Read>(alloc: Global, front: &[u8], reader: &mut R) -> Result<KeptHead, HintError>
     ensures read { IfOk result (λ head. (rest : List ℕ)
         × (front.now ++ rest ≡ head_after front.now head.fields head.digests.items)
@@ -92,14 +95,16 @@ fn read_head<R: Read>(alloc: Global, front: &[u8], reader: &mut R) -> Result<Kep
     head_after(alloc, front, &bytes)
 }
 
-// Room for the bytes of a part, or of so many words where they are fewer. Which they are is not said.
+// Room for the bytes of a part, or of so many words where they are fewer. Which they are is not
+// said.
 fn part_buffer(alloc: Global, count: usize) -> Result<Vec<u8>, AllocError>
     ensures { IfOk result (λ buffer. vec_len buffer ≡ 4 * min count 65536) }
 {
     Vec::from_elem(alloc, 0u8, 4 * count.min(PART_WORDS))
 }
 
-// As many words as the buffer has room for, added to those that were read before; `Damaged` exactly where the reader has fewer bytes.
+// As many words as the buffer has room for, added to those that were read before; `Damaged` exactly
+// where the reader has fewer bytes.
 fn read_part<R: Read>(
     reader: &mut R,
     buffer: &mut [u8],
@@ -120,7 +125,8 @@ fn read_part<R: Read>(
     Ok(())
 }
 
-// So many words. No more than the bytes of one part stand in memory beside them; `Damaged` exactly where the reader has fewer.
+// So many words. No more than the bytes of one part stand in memory beside them; `Damaged` exactly
+// where the reader has fewer.
 fn read_words<R: Read>(alloc: Global, reader: &mut R, count: usize) -> Result<Vec<u32>, HintError>
     requires { count ≤ most_words }
     ensures count { IfOk result (λ words. length words.items ≡ count) }
@@ -156,7 +162,8 @@ fn read_end<R: Read>(reader: &mut R) -> Result<(), HintError>
     }
 }
 
-// The hint whose file goes on, after the bytes in front, with what the reader has up to its end; `Damaged` exactly when no file does.
+// The hint whose file goes on, after the bytes in front, with what the reader has up to its end;
+// `Damaged` exactly when no file does.
 fn read_after<R: Read>(alloc: Global, front: &[u8], reader: &mut R) -> Result<KeptHint, HintError>
     ensures read { IfOk result (λ kept. IfSome (R.remaining reader.old)
         (λ bytes. front.now ++ bytes ≡ file_after front.now kept.known kept.hint)) }
@@ -194,8 +201,8 @@ fn read_after<R: Read>(alloc: Global, front: &[u8], reader: &mut R) -> Result<Ke
     })
 }
 
-// The hint whose file the reader gives up to its end, with a magic and a name of so many bytes in front; `Damaged` exactly when it
-// gives no such file.
+// The hint whose file the reader gives up to its end, with a magic and a name of so many bytes in
+// front; `Damaged` exactly when it gives no such file.
 fn read_named<R: Read>(
     alloc: Global,
     magic: &[u8; MAGIC_LEN],
@@ -220,13 +227,13 @@ fn read_named<R: Read>(
     read_after(alloc, &front, reader)
 }
 
-/// The hint whose file the reader gives up to its end, with what the server had reported last. Beside the hint's words, no more than
-/// the bytes of one part stand in memory.
+/// The hint whose file the reader gives up to its end, with what the server had reported last.
+/// Beside the hint's words, no more than the bytes of one part stand in memory.
 ///
 /// # Errors
 ///
-/// `Damaged` exactly when the bytes are no file of a hint, `Read` when a read failed, an interrupted one, too, `Memory` when memory
-/// was refused.
+/// `Damaged` exactly when the bytes are no file of a hint, `Read` when a read failed, an
+/// interrupted one, too, `Memory` when memory was refused.
 pub fn read_hint<R: Read>(alloc: Global, reader: &mut R) -> Result<KeptHint, HintError>
     ensures read { IfOk result (λ kept. IfSome (R.remaining reader.old)
         (λ bytes. bytes ≡ hint_bytes kept.known kept.hint)) }

@@ -37,7 +37,8 @@ column_taken w hint s0 s col first words h are = record {
   ]);
 }
 
--- a matrix before and after the digits of the first n listed rows of a hint come into `count` rows of their columns, from row `first` on
+-- a matrix before and after the digits of the first n listed rows of a hint come into `count` rows
+-- of their columns, from row `first` on
 pub record TakesColumns (w : ℕ) (hint old new : WordMatrix) (listed : List ℕ) (n first count : ℕ) : Type 0 where
   pub few : n ≤ length listed
   pub rows : new.rows ≡ old.rows

@@ -18,7 +18,8 @@ use Rattle.hint_update.specs.Words.{IsMultiple, IsRowAdded, higher_row}
 abbrev pub total : ℕ → (ℕ → ℕ → ℕ) → (ℕ → ℕ) → ℕ → ℕ
 total n e a t = sum_below n (λ k. e t k * a k)
 
--- rows times their weights, and a list times a factor, that give 0 at each place where the other list is not 0, give 0 with the other list
+-- rows times their weights, and a list times a factor, that give 0 at each place where the other
+-- list is not 0, give 0 with the other list
 all_give_none : (n m : ℕ) (e : ℕ → ℕ → ℕ) (g a f : ℕ → ℕ) (u : ℕ) →
     ((k : ℕ) → k < n → ((sum_below m (λ t. g t * e t k) + u * f k) % 2 ^ 32 ≡ 0) ⊎ (a k ≡ 0)) →
     (sum_below m (λ t. g t * total n e a t) + u * sum_below n (λ k. f k * a k)) % 2 ^ 32 ≡ 0
@@ -59,7 +60,8 @@ lowest_follows n m e g a f u is none =
     ∙ ap (λ x. 0 + x * total n e a 0) is ∙ omega arith in
     omega (arith, zero, parts, one)
 
--- what the test of a word finds: rows that were added to zeros, each times its weight, and a list times a factor, are 0 at n places
+-- what the test of a word finds: rows that were added to zeros, each times its weight, and a list
+-- times a factor, are 0 at n places
 pub sums_are_none : (zeros weights common : List ℕ) (changes : WordMatrix) (i n factor : ℕ) → n ≤ length zeros →
     ((k : ℕ) → k < length zeros → slice_index zeros k ≡ 0) →
     ((k : ℕ) → k < n → slice_index (plus_scaled (plus_rows zeros (length weights) (λ t. slice_index weights t) changes i) common factor) k ≡ 0) →
@@ -203,7 +205,8 @@ whole_row_added out changes public i wide =
           plus_rows-index out n (λ k. slice_index (row changes i) k) public 0 q l ∙ ap (λ x. (slice_index out q + x) % 2 ^ 32) same;
     }
 
--- a row to which the products of a word's higher digits are added, each times its weight, and the combined list times the word's factor
+-- a row to which the products of a word's higher digits are added, each times its weight, and the
+-- combined list times the word's factor
 pub lowest_row_added : (out weights rest common combined : List ℕ) (products changes public : WordMatrix) (i h m n factor : ℕ) →
     length weights ≡ 1 + m → ((s : ℕ) → s < m → slice_index rest s ≡ slice_index weights (1 + s)) → slice_index weights 0 ≡ 2 ^ 32 - 1 →
     IsMultiple weights changes i n common factor →

@@ -3,7 +3,8 @@ use Rattle.std.specs.Prelude.{ℕ, ◌+◌, ◌-◌, ◌≤◌, ◌↔◌, List,
 use Rattle.std.specs.List.{Contains, flat_map}
 use Rattle.std.specs.List.Sorted.{IsStrictlyIncreasing}
 
--- the number of the current version, and a list of rows for each of the publications that led to it, the newest first
+-- the number of the current version, and a list of rows for each of the publications that led to
+-- it, the newest first
 pub record Log : Type 0 where
   pub version : ℕ
   pub lists : List (List ℕ)

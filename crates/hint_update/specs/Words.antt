@@ -1,14 +1,15 @@
--- Changed rows that are taken by whole words: the digits of a word stand below one another, the lowest first.
+-- Changed rows that are taken by whole words: the digits of a word stand below one another, the
+-- lowest first.
 use Rattle.std.specs.Prelude.{◌≡◌, ◌≢◌, ◌⊎◌, ℕ, ◌+◌, ◌-◌, ◌*◌, ◌/◌, ◌%◌, ◌^◌, ◌<◌, ◌≤◌, List, length, slice_index, min, nat_lt, if◌then◌else◌}
 use Rattle.std.specs.Int.{trailing_zeros, w32}
 use Rattle.matrix_u32.specs.Sum.{sum_below}
 use Rattle.matrix_u32.specs.Matrix.{WordMatrix, entry}
 use Rattle.digit_pack.specs.Digits.{recomposed_at}
-use Rattle.hint_update.specs.declared.rows.RowsRoom.{RowsRoom}
-use Rattle.hint_update.specs.declared.words.WordsRoom.{WordsRoom}
+use Rattle.hint_update.specs.declared.rows.RowsBuffers.{RowsBuffers}
+use Rattle.hint_update.specs.declared.words.WordsBuffers.{WordsBuffers}
 
 -- memory for words that change together, over so many rows of a public matrix with so many columns
-pub record IsWordsRoom (most cols : ℕ) (room : WordsRoom) : Type 0 where
+pub record IsWordsBuffers (most cols : ℕ) (room : WordsBuffers) : Type 0 where
   pub digits : 1 < length room.weights.items
   pub lowest : slice_index room.weights.items 0 ≡ 2 ^ 32 - 1
   pub common : length room.common.items ≡ most
@@ -19,7 +20,7 @@ pub record IsWordsRoom (most cols : ℕ) (room : WordsRoom) : Type 0 where
   pub products_cols : room.products.cols ≡ cols
 
 -- memory for at most so many changed rows, over a public matrix with so many columns
-pub record IsRowsRoom (most cols : ℕ) (room : RowsRoom) : Type 0 where
+pub record IsRowsBuffers (most cols : ℕ) (room : RowsBuffers) : Type 0 where
   pub public_rows : room.public.rows ≡ most
   pub public_cols : room.public.cols ≡ cols
   pub blocks : 0 < room.changes.rows
@@ -27,27 +28,29 @@ pub record IsRowsRoom (most cols : ℕ) (room : RowsRoom) : Type 0 where
   pub new_digits : length room.new_digits.items ≡ room.changes.rows
   pub old_digits : length room.old_digits.items ≡ room.changes.rows
   pub sums : length room.sums.items ≡ most
-  pub words : IsWordsRoom most cols room.words
+  pub words : IsWordsBuffers most cols room.words
 
 -- the sum of the public rows, each times its number
-abbrev pub HasCombined : WordMatrix → WordsRoom → Type 0
+abbrev pub HasCombined : WordMatrix → WordsBuffers → Type 0
 HasCombined public room =
     (q : ℕ) → q < public.cols →
     slice_index room.combined.items q ≡ sum_below public.rows (λ k. slice_index room.common.items k * entry public k q) % 2 ^ 32
 
--- a word that changes by a multiple of a list: the changes of its digits, which stand from row i on, each times its negative weight, and the
--- factor times the list give 0, in each of n listed rows
+-- a word that changes by a multiple of a list: the changes of its digits, which stand from row i
+-- on, each times its negative weight, and the factor times the list give 0, in each of n listed
+-- rows
 abbrev pub IsMultiple : List ℕ → WordMatrix → ℕ → ℕ → List ℕ → ℕ → Type 0
 IsMultiple weights changes i n common factor =
     (k : ℕ) → k < n →
     (sum_below (length weights) (λ t. slice_index weights t * entry changes (i + t) k) + factor * slice_index common k) % 2 ^ 32 ≡ 0
 
 -- so many rows that are those of whole words, with room for the higher digits
-pub record AreWholeWords (count : ℕ) (room : WordsRoom) : Type 0 where
+pub record AreWholeWords (count : ℕ) (room : WordsBuffers) : Type 0 where
   pub whole : count % length room.weights.items ≡ 0
   pub fit : count / length room.weights.items * (length room.weights.items - 1) ≤ room.higher.rows
 
--- where the digits of words stand that have `step` digits, the row of the h-th one that is not a lowest digit
+-- where the digits of words stand that have `step` digits, the row of the h-th one that is not a
+-- lowest digit
 abbrev pub higher_row : ℕ → ℕ → ℕ
 higher_row step h = h + h / (step - 1) + 1
 
@@ -62,14 +65,15 @@ HasHigherProducts step changes public products =
     (h q : ℕ) → h < products.rows → higher_row step h < changes.rows → q < public.cols →
     entry products h q ≡ sum_below public.rows (λ k. entry changes (higher_row step h) k * entry public k q) % 2 ^ 32
 
--- a row of the client's hint before and after all public rows are added, each times its change in row i
+-- a row of the client's hint before and after all public rows are added, each times its change in
+-- row i
 pub record IsRowAdded (old new : List ℕ) (changes public : WordMatrix) (i : ℕ) : Type 0 where
   pub count : length new ≡ length old
   pub added : (q : ℕ) → q < length old →
       slice_index new q ≡ (slice_index old q + sum_below public.rows (λ k. entry changes i k * entry public k q)) % 2 ^ 32
 
--- ---- the list that words are guessed to follow
--- of the k-th listed row, the change of a word: from the one whose digits the server's hint has to the one of the hint; 0 past the listed rows
+-- ---- the list that words are guessed to follow of the k-th listed row, the change of a word: from
+-- the one whose digits the server's hint has to the one of the hint; 0 past the listed rows
 abbrev pub word_change : ℕ → WordMatrix → WordMatrix → List ℕ → ℕ → ℕ → ℕ
 word_change w server hint listed word k =
     if nat_lt k (length listed)
@@ -108,8 +112,9 @@ pub record AreFirstChanges (words count : ℕ) (change : ℕ → ℕ → ℕ) (l
   pub ending : IsFirstEnding count (change word) least place
   pub each : (k : ℕ) → k < count → slice_index changes k ≡ change word k
 
--- the list that is guessed, and the place of its 1: the changes of the first word that has one divisible by no higher power
--- of two than all are, divided by that power and modulo 2 ^ 32 by what it leaves of the first such change
+-- the list that is guessed, and the place of its 1: the changes of the first word that has one
+-- divisible by no higher power of two than all are, divided by that power and modulo 2 ^ 32 by what
+-- it leaves of the first such change
 pub record IsGuess (words count : ℕ) (change : ℕ → ℕ → ℕ) (common : List ℕ) (pivot : ℕ) : Type 0 where
   pub least : ℕ
   pub word : ℕ
@@ -125,7 +130,8 @@ pub record IsNoGuess (common : List ℕ) (pivot : ℕ) : Type 0 where
   pub zeros : (k : ℕ) → k < length common → slice_index common k ≡ 0
   pub first : pivot ≡ 0
 
--- what is guessed for listed rows: no list where they are fewer than 16, or there is no word; else a list of the first 16 words
+-- what is guessed for listed rows: no list where they are fewer than 16, or there is no word; else
+-- a list of the first 16 words
 pub record IsGuessFor (w : ℕ) (server hint : WordMatrix) (listed common : List ℕ) (pivot : ℕ) : Type 0 where
   pub too_few : length listed < 16 → IsNoGuess common pivot
   pub no_words : hint.cols ≡ 0 → IsNoGuess common pivot

@@ -1,18 +1,21 @@
 //! Hints that follow their digits in place.
 //!
-//! A hint is the product of a digit matrix and a public matrix. Where one digit changes, one row of the
-//! hint changes, by the difference of the digits times a row of the public matrix: that is all that is
-//! multiplied, and the hint is then, word for word, the one made from scratch. The hints of DoublePIR follow
-//! a changed row of that hint, or several of them, in the same way. The public matrix of the digits may have
-//! more rows than these have columns: a product takes no more of them.
+//! A hint is the product of a digit matrix and a public matrix. Where one digit changes, one row of
+//! the hint changes, by the difference of the digits times a row of the public matrix: that is all
+//! that is multiplied, and the hint is then, word for word, the one made from scratch. The hints of
+//! DoublePIR follow a changed row of that hint, or several of them, in the same way. The public
+//! matrix of the digits may have more rows than these have columns: a product takes no more of
+//! them.
 //!
-//! Its tests are in `scheme_tests::updates` and `scheme_tests::logs`; that of several rows at once is in `tests/long/scheme_tests`.
+//! Its tests are in `tests_scheme::updates` and `tests_scheme::logs`; that of several rows at once
+//! is in `tests/long/tests_scheme`.
 #![tactic(auto)]
 
 ghost use Rattle.std.specs.Prelude.{◌≡◌, ℕ, ◌+◌, ◌-◌, ◌*◌, ◌%◌, ◌^◌, ◌<◌, ◌≤◌, length};
 ghost use Rattle.matrix_u32.specs.Matrix.{entry, plus_scaled, with_row, row as row_of};
 ghost use Rattle.lane_kernels.specs.Digit.{split_count};
-ghost use Rattle.hint_update.specs.Updates.{FollowsDigit, FollowsRow, with_column, digits_of_words, moved_hint};
+ghost use Rattle.hint_update.specs.Updates.{FollowsDigit, FollowsRow, with_column, digits_of_words};
+ghost use Rattle.hint_update.specs.Updates.{moved_hint};
 
 mod log;
 mod rows;
@@ -21,16 +24,16 @@ mod words;
 use digit_pack::{DigitStore, split_count, word_digit};
 pub use log::DeltaLog;
 use matrix_u32::{Kernel, Matrix};
-pub use rows::{RowsRoom, update_double_rows};
-pub use words::WordsRoom;
+pub use rows::{RowsBuffers, update_double_rows};
+pub use words::WordsBuffers;
 
-/// Changes the hint of a digit matrix as the digit in row `row`, column `col` changes from `old` to `new`.
-/// Where they are equal nothing is multiplied.
+/// Changes the hint of a digit matrix as the digit in row `row`, column `col` changes from `old` to
+/// `new`. Where they are equal nothing is multiplied.
 ///
-/// Of every digit matrix that has `old` in this place, and from which the hint was made before, the hint is
-/// now made from that matrix with `new` in the place. Whatever the hint was made from, its row `row` has the
-/// difference of the digits times row `col` of the public matrix added, and the other rows stay. It takes
-/// no memory.
+/// Of every digit matrix that has `old` in this place, and from which the hint was made before, the
+/// hint is now made from that matrix with `new` in the place. Whatever the hint was made from, its
+/// row `row` has the difference of the digits times row `col` of the public matrix added, and the
+/// other rows stay. It takes no memory.
 pub fn update_simple<K: Kernel>(
     kernel: K,
     hint: &mut Matrix,
@@ -63,14 +66,15 @@ fn add_difference<K: Kernel>(kernel: K, out: &mut [u32], x: &[u32], old: u32, ne
     }
 }
 
-/// Changes both hints of DoublePIR as a row of the digit matrix D changes: `words` is the new row `row` of
-/// D A1, n words. The server's hint H has κ n rows, the κ digits of each word one below the other, and a
-/// column for each row of D; its column `row` is given the words' digits. The client's hint H A2 has as
-/// many rows as H, and n columns; each of its rows changes by the change of its digit times row `row` of A2.
-/// Nothing is multiplied for a digit that stays.
+/// Changes both hints of DoublePIR as a row of the digit matrix D changes: `words` is the new row
+/// `row` of D A1, n words. The server's hint H has κ n rows, the κ digits of each word one below
+/// the other, and a column for each row of D; its column `row` is given the words' digits. The
+/// client's hint H A2 has as many rows as H, and n columns; each of its rows changes by the change
+/// of its digit times row `row` of A2. Nothing is multiplied for a digit that stays.
 ///
-/// Of every D and A1 from which both hints were made before, they are now made from D with its new row.
-/// Whatever they were made from, all other columns of the server's hint stay. It takes no memory.
+/// Of every D and A1 from which both hints were made before, they are now made from D with its new
+/// row. Whatever they were made from, all other columns of the server's hint stay. It takes no
+/// memory.
 pub fn update_double<K: Kernel, S: DigitStore>(
     kernel: K,
     server_hint: &mut S,

@@ -1,7 +1,9 @@
 //! The rows that the latest publications changed.
 
-ghost use Rattle.std.specs.Prelude.{◌≡◌, ◌+◌, ◌-◌, ◌^◌, ◌<◌, ◌≤◌, ◌↔◌, [], length, take, IfOk, IfSome, IsNone, IfNone, map, flat_map};
-ghost use Rattle.hint_update.specs.Logs.{Log, with_publication, ReachesBack, lists_since, AreRowsOf};
+ghost use Rattle.std.specs.Prelude.{◌≡◌, ◌+◌, ◌-◌, ◌^◌, ◌<◌, ◌≤◌, ◌↔◌, [], length, take, IfOk};
+ghost use Rattle.std.specs.Prelude.{IfSome, IsNone, IfNone, map, flat_map};
+ghost use Rattle.hint_update.specs.Logs.{Log, with_publication, ReachesBack, lists_since};
+ghost use Rattle.hint_update.specs.Logs.{AreRowsOf};
 
 use std::alloc::{AllocError, Global};
 use std::collections::VecDeque;
@@ -10,9 +12,9 @@ use std::marker::Model;
 // How many publications a log keeps.
 const MAX_LISTS: usize = 16;
 
-/// The rows of a hint that each of the latest 16 publications changed, so that a hint of a version before
-/// can be brought forward by these rows alone. A contract sees it as a `Log`: the number of the current
-/// version, and the lists of rows, the newest first.
+/// The rows of a hint that each of the latest 16 publications changed, so that a hint of a version
+/// before can be brought forward by these rows alone. A contract sees it as a `Log`: the number of
+/// the current version, and the lists of rows, the newest first.
 #[derive(Drop)]
 pub struct DeltaLog {
     alloc: Global,
@@ -37,8 +39,8 @@ impl Model for DeltaLog {
 }
 
 impl DeltaLog {
-    /// A log that begins with this version, with room for 16 lists; it keeps the allocator. Only refused
-    /// memory gives an `Err`.
+    /// A log that begins with this version, with room for 16 lists; it keeps the allocator. Only
+    /// refused memory gives an `Err`.
     pub fn new(alloc: Global, version: u64) -> Result<DeltaLog, AllocError>
         ensures { IfOk result (λ log. log ≡ record { version = version; lists = [] }) }
     {
@@ -57,8 +59,8 @@ impl DeltaLog {
         self.version
     }
 
-    /// Logs a publication: the rows that it changed, in any order. The log's version goes up by one; at 16
-    /// lists the oldest goes. It takes no memory.
+    /// Logs a publication: the rows that it changed, in any order. The log's version goes up by
+    /// one; at 16 lists the oldest goes. It takes no memory.
     pub fn add(&mut self, rows: Vec<u32>)
         requires { self.old.version + 1 < 2 ^ 64 }
         ensures { self.new ≡ with_publication rows.items self.old }
@@ -70,11 +72,11 @@ impl DeltaLog {
         self.version += 1;
     }
 
-    /// The rows that the publications since a version changed, ascending, each once: none where the version
-    /// is the current one.
+    /// The rows that the publications since a version changed, ascending, each once: none where the
+    /// version is the current one.
     ///
-    /// `None` exactly when the version is neither the current one nor one of the 16 before it that the log
-    /// has seen. Only refused memory gives an `Err`.
+    /// `None` exactly when the version is neither the current one nor one of the 16 before it that
+    /// the log has seen. Only refused memory gives an `Err`.
     pub fn rows_since(&self, version: u64) -> Result<Option<Vec<u32>>, AllocError>
         ensures none { IfOk result (λ found. IsNone found ↔ ¬ ReachesBack self.now version) }
         ensures rows { IfOk result (λ found. IfSome found (λ rows.

@@ -1,52 +1,56 @@
 //! Hints of DoublePIR that follow several rows at once.
 
-ghost use Rattle.std.specs.Prelude.{◌≡◌, ◌≢◌, ◌↔◌, ℕ, ◌+◌, ◌-◌, ◌*◌, ◌%◌, ◌^◌, ◌<◌, ◌≤◌, ◌∷◌, [], length, slice_index, EachIndex, IfOk, IsTrue};
+ghost use Rattle.std.specs.Prelude.{◌≡◌, ◌≢◌, ◌↔◌, ℕ, ◌+◌, ◌-◌, ◌*◌, ◌%◌, ◌^◌, ◌<◌, ◌≤◌, ◌∷◌, []};
+ghost use Rattle.std.specs.Prelude.{length, slice_index, EachIndex, IfOk, IsTrue};
 ghost use Rattle.matrix_u32.specs.Matrix.{entry, row};
 ghost use Rattle.matrix_u32.specs.Blocks.{plus_rows};
 ghost use Rattle.lane_kernels.specs.Digit.{split_count};
 ghost use Rattle.hint_update.specs.Updates.{AreRowsBelow, FollowsListed, TakesRows, moved_by_rows};
 ghost use Rattle.hint_update.specs.Updates.{AddsRows, TakesBlock, digit_change, word_digit_at};
-ghost use Rattle.hint_update.specs.Words.{IsRowsRoom};
+ghost use Rattle.hint_update.specs.Words.{IsRowsBuffers};
 
-use crate::words::{WordsRoom, add_changed};
+use crate::words::{WordsBuffers, add_changed};
 use digit_pack::{DigitStore, split_count, word_digit};
 use matrix_u32::{Kernel, Matrix};
 use std::alloc::{AllocError, Global};
 
-// How many rows of the client's hint are changed together, at most: as many as stay near the processor while the rows of
-// the public matrix pass.
+// How many rows of the client's hint are changed together, at most: as many as stay near the
+// processor while the rows of the public matrix pass.
 const BLOCK_ROWS: usize = 32;
 
 // How many rows of the public matrix pass at a time.
 const PASSING_ROWS: usize = 4;
 
-/// Memory for rows that [`update_double_rows`] takes together, made for digits of w bits: copies of their rows of the second
-/// public matrix, one beside the other, for some rows of the client's hint the changes of their digits, those of one column as they
-/// come and as they were, and what products of whole words want. What they hold between calls has no meaning.
+/// Memory for rows that [`update_double_rows`] takes together, made for digits of w bits: copies of
+/// their rows of the second public matrix, one beside the other, for some rows of the client's hint
+/// the changes of their digits, those of one column as they come and as they were, and what
+/// products of whole words want. What they hold between calls has no meaning.
 #[derive(Drop)]
-pub struct RowsRoom {
+pub struct RowsBuffers {
     pub public: Matrix,
     pub changes: Matrix,
     pub new_digits: Vec<u32>,
     pub old_digits: Vec<u32>,
     pub sums: Vec<u32>,
-    pub words: WordsRoom,
+    pub words: WordsBuffers,
 }
 
-impl RowsRoom {
-    /// Memory for `most` rows, over a public matrix with so many columns. Only refused memory gives an `Err`.
-    pub fn new(alloc: Global, most: usize, cols: usize, w: u32) -> Result<RowsRoom, AllocError>
+impl RowsBuffers {
+    /// Memory for `most` rows, over a public matrix with so many columns. Only refused memory gives
+    /// an `Err`.
+    pub fn new(alloc: Global, most: usize, cols: usize, w: u32) -> Result<RowsBuffers, AllocError>
         requires most { most ≤ 4096 }
         requires cols { cols ≤ 1024 }
         requires width { (6 ≤ w) × (w ≤ 10) }
-        ensures { IfOk result (IsRowsRoom most cols) }
+        ensures { IfOk result (IsRowsBuffers most cols) }
     {
         let step = split_count(w);
         let count = BLOCK_ROWS / step;
         let block = count * step;
-        // Before the public rows: what glibc's heap gives out next stands past it. Where products stood some bytes past the public
-        // rows, modulo 4096, loads of these would wait for stores of those, which only seem to be of their bytes.
-        let words = WordsRoom::new(alloc, count, most, cols, w)?;
+        // Before the public rows: what glibc's heap gives out next stands past it. Where products
+        // stood some bytes past the public rows, modulo 4096, loads of these would wait for stores
+        // of those, which only seem to be of their bytes.
+        let words = WordsBuffers::new(alloc, count, most, cols, w)?;
         let Ok(public) = Matrix::zeros(alloc, most, cols) else {
             return Err(AllocError);
         };
@@ -56,7 +60,7 @@ impl RowsRoom {
         let new_digits = vec![in alloc; 0; block]?;
         let old_digits = vec![in alloc; 0; block]?;
         let sums = vec![in alloc; 0; most]?;
-        Ok(RowsRoom {
+        Ok(RowsBuffers {
             public,
             changes,
             new_digits,
@@ -67,13 +71,14 @@ impl RowsRoom {
     }
 }
 
-/// Changes both hints of DoublePIR as several rows of the digit matrix D change: those of `listed`, which ascend. These rows
-/// of `hint` are the new rows of D A1. What [`update_double`](crate::update_double) does for each of them is done here in one
-/// pass over the hints, so that each row of the client's hint is read and written while it is near the processor.
+/// Changes both hints of DoublePIR as several rows of the digit matrix D change: those of `listed`,
+/// which ascend. These rows of `hint` are the new rows of D A1. What
+/// [`update_double`](crate::update_double) does for each of them is done here in one pass over the
+/// hints, so that each row of the client's hint is read and written while it is near the processor.
 ///
-/// Of every D and A1 from which both hints were made before, they are now made from D with its new rows.
-/// Whatever they were made from, all other columns of the server's hint stay. It takes no memory: `room` has some for as many
-/// rows as are listed, at least.
+/// Of every D and A1 from which both hints were made before, they are now made from D with its new
+/// rows. Whatever they were made from, all other columns of the server's hint stay. It takes no
+/// memory: `room` has some for as many rows as are listed, at least.
 pub fn update_double_rows<K: Kernel, S: DigitStore>(
     kernel: K,
     server_hint: &mut S,
@@ -82,7 +87,7 @@ pub fn update_double_rows<K: Kernel, S: DigitStore>(
     w: u32,
     hint: &Matrix,
     listed: &[usize],
-    room: &mut RowsRoom,
+    room: &mut RowsBuffers,
 )
     requires width { (6 ≤ w) × (w ≤ 10) }
     requires listed { AreRowsBelow hint.now.rows listed.now }
@@ -92,14 +97,14 @@ pub fn update_double_rows<K: Kernel, S: DigitStore>(
     requires client_cols { client_hint.old.cols ≡ a2.now.cols }
     requires rows { a2.now.rows ≡ (S.digits server_hint.old).cols }
     requires few { length listed.now ≤ room.old.public.rows }
-    requires room { IsRowsRoom room.old.public.rows a2.now.cols room.old }
+    requires room { IsRowsBuffers room.old.public.rows a2.now.cols room.old }
     ensures follows { FollowsListed w hint.now a2.now (S.digits server_hint.old)
         (S.digits server_hint.new) client_hint.old client_hint.new listed.now }
     ensures server { TakesRows w hint.now (S.digits server_hint.old) (S.digits server_hint.new)
         listed.now }
     ensures client { client_hint.new ≡ moved_by_rows client_hint.old (S.digits server_hint.old)
         (S.digits server_hint.new) a2.now listed.now }
-    ensures room { IsRowsRoom room.old.public.rows a2.now.cols room.new }
+    ensures room { IsRowsBuffers room.old.public.rows a2.now.cols room.new }
 {
     copy_rows(a2, listed, &mut room.public);
     clear_rows(&mut room.public, listed.len());
@@ -110,7 +115,7 @@ pub fn update_double_rows<K: Kernel, S: DigitStore>(
     let mut first = 0;
     while first < rows {
         let count = room.changes.rows().min(rows - first);
-        take_block(
+        replace_digits(
             server_hint,
             hint,
             w,
@@ -154,9 +159,10 @@ fn clear_rows(m: &mut Matrix, from: usize)
     }
 }
 
-// Writes into `count` rows of the server's hint, from row `first` on, the digits of the listed rows of the hint, and puts the
-// change of each into `changes`. The other two have room for a column of digits each.
-fn take_block<S: DigitStore>(
+// Writes into `count` rows of the server's hint, from row `first` on, the digits of the listed rows
+// of the hint, and puts the change of each into `changes`. The other two have room for a column of
+// digits each.
+fn replace_digits<S: DigitStore>(
     server_hint: &mut S,
     hint: &Matrix,
     w: u32,
@@ -195,8 +201,8 @@ fn take_block<S: DigitStore>(
     }
 }
 
-// Writes the digits of one row of the hint into the column of its number, from row `first` on: as many as there is room for, which
-// are then the new ones, and beside them those that stood there.
+// Writes the digits of one row of the hint into the column of its number, from row `first` on: as
+// many as there is room for, which are then the new ones, and beside them those that stood there.
 fn take_column<S: DigitStore>(
     server_hint: &mut S,
     hint: &Matrix,
@@ -280,7 +286,8 @@ fn next_place(word: usize, place: usize, step: usize) -> (usize, usize)
     }
 }
 
-// Adds to `count` rows of the client's hint, from row `first` on, the first n rows of the public matrix, each times its factor.
+// Adds to `count` rows of the client's hint, from row `first` on, the first n rows of the public
+// matrix, each times its factor.
 pub(crate) fn add_block<K: Kernel>(
     kernel: K,
     client_hint: &mut Matrix,
@@ -334,8 +341,8 @@ fn add_passing<K: Kernel>(
     }
 }
 
-// Adds to `out` the rows of a matrix from `start` on, each times its factor; where all of them are 0 nothing
-// is multiplied.
+// Adds to `out` the rows of a matrix from `start` on, each times its factor; where all of them are
+// 0 nothing is multiplied.
 pub(crate) fn add_changes<K: Kernel>(
     kernel: K,
     out: &mut [u32],

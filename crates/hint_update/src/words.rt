@@ -1,40 +1,47 @@
 //! Rows of the client's hint that change by the digits of whole words.
 //!
-//! The digits of a word, each times its weight 2^(w t), add up to the word. Where one column of D changes, row i of D A1
-//! changes by a multiple of one row of A1, and so each word of the changed rows by a multiple of one list, which has a
-//! number for each changed row. The product of this list with the second public matrix is made once. Of a word's digits only the
-//! higher ones are then multiplied, and what the lowest one adds to the client's hint follows from their products and from that one.
-//! Nothing is taken for granted: the list is a guess, and each word is tested before it is used.
+//! The digits of a word, each times its weight 2^(w t), add up to the word. Where one column of D
+//! changes, row i of D A1 changes by a multiple of one row of A1, and so each word of the changed
+//! rows by a multiple of one list, which has a number for each changed row. The product of this
+//! list with the second public matrix is made once. Of a word's digits only the higher ones are
+//! then multiplied, and what the lowest one adds to the client's hint follows from their products
+//! and from that one. Nothing is taken for granted: the list is a guess, and each word is tested
+//! before it is used.
 
-ghost use Rattle.std.specs.Prelude.{◌≡◌, ℕ, ◌+◌, ◌-◌, ◌*◌, ◌/◌, ◌%◌, ◌^◌, ◌<◌, ◌≤◌, length, slice_index};
+ghost use Rattle.std.specs.Prelude.{◌≡◌, ℕ, ◌+◌, ◌-◌, ◌*◌, ◌/◌, ◌%◌, ◌^◌, ◌<◌, ◌≤◌, length};
+ghost use Rattle.std.specs.Prelude.{slice_index};
 ghost use Rattle.std.specs.Prelude.{IfOk, IfSome, IsTrue, MatchOption, min};
 ghost use Rattle.matrix_u32.specs.Matrix.{entry};
 ghost use Rattle.lane_kernels.specs.Digit.{split_count};
 ghost use Rattle.digit_pack.specs.Digits.{recomposed_at};
 ghost use Rattle.hint_update.specs.Updates.{AddsRows, AreRowsBelow};
-ghost use Rattle.hint_update.specs.Words.{IsRowsRoom, IsWordsRoom, HasCombined, IsMultiple};
-ghost use Rattle.hint_update.specs.Words.{AreWholeWords, HasHigherRows, HasHigherProducts, IsRowAdded};
-ghost use Rattle.hint_update.specs.Words.{word_change, IsFewestZeros, IsLeastPower, HasNone, IsFirstEnding};
+ghost use Rattle.hint_update.specs.Words.{IsRowsBuffers, IsWordsBuffers, HasCombined, IsMultiple};
+ghost use Rattle.hint_update.specs.Words.{AreWholeWords, HasHigherRows, HasHigherProducts};
+ghost use Rattle.hint_update.specs.Words.{IsRowAdded};
+ghost use Rattle.hint_update.specs.Words.{word_change, IsFewestZeros, IsLeastPower, HasNone};
+ghost use Rattle.hint_update.specs.Words.{IsFirstEnding};
 ghost use Rattle.hint_update.specs.Words.{AreFirstChanges, IsGuessFor};
 
-use crate::rows::{RowsRoom, add_block, add_changes, are_zero};
+use crate::rows::{RowsBuffers, add_block, add_changes, are_zero};
 use digit_pack::{DigitStore, split_count};
 use matrix_u32::{Kernel, Matrix};
 use std::alloc::{AllocError, Global};
 
-// The fewest rows of which whole words are multiplied together. With fewer, what the lowest digits follow from costs more than
-// their products.
+// The fewest rows of which whole words are multiplied together. With fewer, what the lowest digits
+// follow from costs more than their products.
 const FEWEST_ROWS: usize = 16;
 
-// How many words are looked at for the changes that the list is made of. Where the first public matrix has an even word, its changes
-// no longer tell odd numbers from even ones, so one word is not enough.
+// How many words are looked at for the changes that the list is made of. Where the first public
+// matrix has an even word, its changes no longer tell odd numbers from even ones, so one word is
+// not enough.
 const TRIED_WORDS: usize = 16;
 
-/// Memory for products of whole words: `weights` has the negative weight of each digit of a word, the lowest first; `common` the
-/// list of which words may change by multiples, a number for each listed row, with 1 in place `pivot`; `combined` its product with the public
-/// rows. `higher` and `products` have a row for each digit of some words but the lowest ones.
+/// Memory for products of whole words: `weights` has the negative weight of each digit of a word,
+/// the lowest first; `common` the list of which words may change by multiples, a number for each
+/// listed row, with 1 in place `pivot`; `combined` its product with the public rows. `higher` and
+/// `products` have a row for each digit of some words but the lowest ones.
 #[derive(Drop)]
-pub struct WordsRoom {
+pub struct WordsBuffers {
     pub weights: Vec<u32>,
     pub common: Vec<u32>,
     pub pivot: usize,
@@ -43,20 +50,21 @@ pub struct WordsRoom {
     pub products: Matrix,
 }
 
-impl WordsRoom {
-    /// Memory for so many words, over `most` rows of a public matrix with so many columns. Only refused memory gives an `Err`.
+impl WordsBuffers {
+    /// Memory for so many words, over `most` rows of a public matrix with so many columns. Only
+    /// refused memory gives an `Err`.
     pub fn new(
         alloc: Global,
         words: usize,
         most: usize,
         cols: usize,
         w: u32,
-    ) -> Result<WordsRoom, AllocError>
+    ) -> Result<WordsBuffers, AllocError>
         requires words { words ≤ 64 }
         requires most { most ≤ 4096 }
         requires cols { cols ≤ 1024 }
         requires width { (6 ≤ w) × (w ≤ 10) }
-        ensures { IfOk result (IsWordsRoom most cols) }
+        ensures { IfOk result (IsWordsBuffers most cols) }
     {
         let step = split_count(w);
         let mut weights = vec![in alloc; 0; step]?;
@@ -69,7 +77,7 @@ impl WordsRoom {
         let Ok(products) = Matrix::zeros(alloc, words * (step - 1), cols) else {
             return Err(AllocError);
         };
-        Ok(WordsRoom {
+        Ok(WordsBuffers {
             weights,
             common,
             pivot: 0,
@@ -79,8 +87,9 @@ impl WordsRoom {
         })
     }
 
-    /// Looks for a list of which the words of the listed rows change by multiples, and makes its product with the public
-    /// rows, those of the listed rows first. The digits of the server's hint are those before the change.
+    /// Looks for a list of which the words of the listed rows change by multiples, and makes its
+    /// product with the public rows, those of the listed rows first. The digits of the server's
+    /// hint are those before the change.
     pub(crate) fn guess<K: Kernel, S: DigitStore>(
         &mut self,
         kernel: K,
@@ -95,13 +104,13 @@ impl WordsRoom {
         requires few { length listed.now ≤ public.now.rows }
         requires server_rows { (S.digits server_hint.now).rows ≡ hint.now.cols * split_count w }
         requires server_cols { (S.digits server_hint.now).cols ≡ hint.now.rows }
-        requires room { IsWordsRoom public.now.rows public.now.cols self.old }
-        ensures room { IsWordsRoom public.now.rows public.now.cols self.new }
+        requires room { IsWordsBuffers public.now.rows public.now.cols self.old }
+        ensures room { IsWordsBuffers public.now.rows public.now.cols self.new }
         ensures combined { HasCombined public.now self.new }
         ensures guessed { IsGuessFor w (S.digits server_hint.now) hint.now listed.now
             self.new.common.items self.new.pivot }
     {
-        self.pivot = put_common(server_hint, hint, w, listed, &mut self.common);
+        self.pivot = find_multiplier(server_hint, hint, w, listed, &mut self.common);
         self.combined.fill(0);
         add_changes(kernel, &mut self.combined, &self.common, public, 0);
     }
@@ -120,11 +129,12 @@ fn put_weights(weights: &mut [u32], w: u32)
     }
 }
 
-// Writes a number for each listed row, so that words change by multiples of them, where there are such numbers, and answers the
-// place of one that is 1; where nothing changes, or too few rows do, all are 0. They are the changes of one of the first words, divided
-// modulo 2^32 by the one that is divisible by the lowest power of two. What the division by that power leaves open no multiple shows, as
-// each change is divisible by it.
-fn put_common<S: DigitStore>(
+// Writes a number for each listed row, so that words change by multiples of them, where there are
+// such numbers, and answers the place of one that is 1; where nothing changes, or too few rows do,
+// all are 0. They are the changes of one of the first words, divided modulo 2^32 by the one that is
+// divisible by the lowest power of two. What the division by that power leaves open no multiple
+// shows, as each change is divisible by it.
+fn find_multiplier<S: DigitStore>(
     server_hint: &S,
     hint: &Matrix,
     w: u32,
@@ -158,8 +168,8 @@ fn put_common<S: DigitStore>(
     }
 }
 
-// The lowest of the powers of two that divide the changes of the first words, as its number of bits: 32 where nothing changes. What
-// `changes` holds afterwards has no meaning.
+// The lowest of the powers of two that divide the changes of the first words, as its number of
+// bits: 32 where nothing changes. What `changes` holds afterwards has no meaning.
 fn least_power<S: DigitStore>(
     server_hint: &S,
     hint: &Matrix,
@@ -184,7 +194,8 @@ fn least_power<S: DigitStore>(
     least
 }
 
-// Writes the changes of the first of the words that has one which ends with exactly so many zero bits, and answers its place.
+// Writes the changes of the first of the words that has one which ends with exactly so many zero
+// bits, and answers its place.
 fn put_first_changes<S: DigitStore>(
     server_hint: &S,
     hint: &Matrix,
@@ -282,8 +293,8 @@ fn word_in<S: DigitStore>(server_hint: &S, w: u32, word: usize, col: usize) -> u
     value
 }
 
-// The number that gives 1 with an odd one, modulo 2^32, by Newton's steps: each doubles the bits that are right, at least two
-// at first.
+// The number that gives 1 with an odd one, modulo 2^32, by Newton's steps: each doubles the bits
+// that are right, at least two at first.
 fn inverse_of_odd(x: u32) -> u32
     ensures { x % 2 ≡ 1 → x * result % 2 ^ 32 ≡ 1 }
 {
@@ -313,21 +324,22 @@ fn shifted(x: u32, bits: u32) -> u32
     if bits < u32::BITS { x >> bits } else { 0 }
 }
 
-/// Adds to `count` rows of the client's hint, from row `first` on, the public rows, each times the change of its digit. Where the
-/// changes are those of whole words that follow the guessed list, only those of their higher digits are multiplied.
+/// Adds to `count` rows of the client's hint, from row `first` on, the public rows, each times the
+/// change of its digit. Where the changes are those of whole words that follow the guessed list,
+/// only those of their higher digits are multiplied.
 pub(crate) fn add_changed<K: Kernel>(
     kernel: K,
     client_hint: &mut Matrix,
     first: usize,
     count: usize,
     n: usize,
-    room: &mut RowsRoom,
+    room: &mut RowsBuffers,
 )
     requires block { first + count ≤ client_hint.old.rows }
     requires rows { count ≤ room.old.changes.rows }
     requires few { n ≤ room.old.public.rows }
     requires cols { client_hint.old.cols ≡ room.old.public.cols }
-    requires room { IsRowsRoom room.old.public.rows room.old.public.cols room.old }
+    requires room { IsRowsBuffers room.old.public.rows room.old.public.cols room.old }
     requires cleared { (k q : ℕ) → n ≤ k → k < room.old.public.rows → q < room.old.public.cols →
         entry room.old.public k q ≡ 0 }
     requires combined { HasCombined room.old.public room.old.words }
@@ -336,7 +348,7 @@ pub(crate) fn add_changed<K: Kernel>(
     ensures public { room.new.public ≡ room.old.public }
     ensures changes { room.new.changes ≡ room.old.changes }
     ensures combined { HasCombined room.new.public room.new.words }
-    ensures room { IsRowsRoom room.old.public.rows room.old.public.cols room.new }
+    ensures room { IsRowsBuffers room.old.public.rows room.old.public.cols room.new }
 {
     if takes_words(kernel, count, n, room) {
         multiply_higher(kernel, &room.changes, &room.public, &mut room.words);
@@ -364,12 +376,12 @@ pub(crate) fn add_changed<K: Kernel>(
     }
 }
 
-// Whether so many rows of changes are those of whole words for which there is room, the listed rows are many enough, and
-// the first word follows the guessed list.
-fn takes_words<K: Kernel>(kernel: K, count: usize, n: usize, room: &mut RowsRoom) -> bool
+// Whether so many rows of changes are those of whole words for which there is room, the listed rows
+// are many enough, and the first word follows the guessed list.
+fn takes_words<K: Kernel>(kernel: K, count: usize, n: usize, room: &mut RowsBuffers) -> bool
     requires rows { count ≤ room.old.changes.rows }
     requires few { n ≤ room.old.public.rows }
-    requires room { IsRowsRoom room.old.public.rows room.old.public.cols room.old }
+    requires room { IsRowsBuffers room.old.public.rows room.old.public.cols room.old }
     ensures words { IsTrue result → AreWholeWords count room.old.words }
     ensures kept { room.new ≡ record room.old { sums = room.new.sums } }
     ensures sums { length room.new.sums.items ≡ length room.old.sums.items }
@@ -384,14 +396,14 @@ fn takes_words<K: Kernel>(kernel: K, count: usize, n: usize, room: &mut RowsRoom
     factor_of_word(kernel, 0, n, &room.changes, &room.words, &mut room.sums).is_some()
 }
 
-// The factor by which the word changes whose digits' changes stand from row i on, times the guessed list; `None` where it does not
-// follow that list.
+// The factor by which the word changes whose digits' changes stand from row i on, times the guessed
+// list; `None` where it does not follow that list.
 fn factor_of_word<K: Kernel>(
     kernel: K,
     i: usize,
     n: usize,
     changes: &Matrix,
-    words: &WordsRoom,
+    words: &WordsBuffers,
     sums: &mut [u32],
 ) -> Option<u32>
     requires rows { i + length words.now.weights.items ≤ changes.now.rows }
@@ -417,9 +429,14 @@ fn factor_of_word<K: Kernel>(
 }
 
 // Makes the products of the changes of higher digits with the public rows.
-fn multiply_higher<K: Kernel>(kernel: K, changes: &Matrix, public: &Matrix, words: &mut WordsRoom)
+fn multiply_higher<K: Kernel>(
+    kernel: K,
+    changes: &Matrix,
+    public: &Matrix,
+    words: &mut WordsBuffers,
+)
     requires cols { changes.now.cols ≡ public.now.rows }
-    requires room { IsWordsRoom public.now.rows public.now.cols words.old }
+    requires room { IsWordsBuffers public.now.rows public.now.cols words.old }
     ensures products { HasHigherProducts (length words.old.weights.items) changes.now public.now
         words.new.products }
     ensures higher_rows { words.new.higher.rows ≡ words.old.higher.rows }
@@ -427,7 +444,7 @@ fn multiply_higher<K: Kernel>(kernel: K, changes: &Matrix, public: &Matrix, word
       higher = words.new.higher;
       products = words.new.products;
     } }
-    ensures room { IsWordsRoom public.now.rows public.now.cols words.new }
+    ensures room { IsWordsBuffers public.now.rows public.now.cols words.new }
 {
     let weights: &[u32] = &words.weights;
     let step = weights.len();
@@ -461,7 +478,7 @@ fn add_words<K: Kernel>(
     n: usize,
     changes: &Matrix,
     public: &Matrix,
-    words: &WordsRoom,
+    words: &WordsBuffers,
     sums: &mut [u32],
 )
     requires block { first + count ≤ client_hint.old.rows }
@@ -471,7 +488,7 @@ fn add_words<K: Kernel>(
     requires changes_cols { changes.now.cols ≡ public.now.rows }
     requires cleared { (k q : ℕ) → n ≤ k → k < public.now.rows → q < public.now.cols →
         entry public.now k q ≡ 0 }
-    requires room { IsWordsRoom public.now.rows public.now.cols words.now }
+    requires room { IsWordsBuffers public.now.rows public.now.cols words.now }
     requires combined { HasCombined public.now words.now }
     requires products { HasHigherProducts (length words.now.weights.items) changes.now public.now
         words.now.products }
@@ -497,7 +514,7 @@ fn add_row<K: Kernel>(
     n: usize,
     changes: &Matrix,
     public: &Matrix,
-    words: &WordsRoom,
+    words: &WordsBuffers,
     sums: &mut [u32],
 )
     requires row { i < count }
@@ -507,7 +524,7 @@ fn add_row<K: Kernel>(
     requires changes_cols { changes.now.cols ≡ public.now.rows }
     requires cleared { (k q : ℕ) → n ≤ k → k < public.now.rows → q < public.now.cols →
         entry public.now k q ≡ 0 }
-    requires room { IsWordsRoom public.now.rows public.now.cols words.now }
+    requires room { IsWordsBuffers public.now.rows public.now.cols words.now }
     requires combined { HasCombined public.now words.now }
     requires products { HasHigherProducts (length words.now.weights.items) changes.now public.now
         words.now.products }
@@ -525,7 +542,8 @@ fn add_row<K: Kernel>(
     }
 }
 
-// The same for the changes of a lowest digit: where the word follows the guessed list, by the products of its higher digits.
+// The same for the changes of a lowest digit: where the word follows the guessed list, by the
+// products of its higher digits.
 fn add_lowest<K: Kernel>(
     kernel: K,
     out: &mut [u32],
@@ -534,7 +552,7 @@ fn add_lowest<K: Kernel>(
     n: usize,
     changes: &Matrix,
     public: &Matrix,
-    words: &WordsRoom,
+    words: &WordsBuffers,
     sums: &mut [u32],
 )
     requires row { i < count }
@@ -545,7 +563,7 @@ fn add_lowest<K: Kernel>(
     requires changes_cols { changes.now.cols ≡ public.now.rows }
     requires cleared { (k q : ℕ) → n ≤ k → k < public.now.rows → q < public.now.cols →
         entry public.now k q ≡ 0 }
-    requires room { IsWordsRoom public.now.rows public.now.cols words.now }
+    requires room { IsWordsBuffers public.now.rows public.now.cols words.now }
     requires combined { HasCombined public.now words.now }
     requires products { HasHigherProducts (length words.now.weights.items) changes.now public.now
         words.now.products }

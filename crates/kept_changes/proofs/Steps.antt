@@ -41,8 +41,8 @@ one_and_more_of_whole p m ms before now after one more = record {
   matrix = more.matrix ∙ ap (moved_through p ms) one.matrix;
 }
 
--- What is left of all moves, for whatever it means that they move a hint to another: they can be made if and only if all can, and make of the
--- hint now what all make of it at first.
+-- What is left of all moves, for whatever it means that they move a hint to another: they can be
+-- made if and only if all can, and make of the hint now what all make of it at first.
 pub record IsUnderWay (p : Plan) (Moves : List HintMove → Hint → Hint → Type 0) (all left : List HintMove) (first now : Hint) : Type 0 where
   pub on : (after : Hint) → Moves left now after → Moves all first after
   pub good : AreMovesOf p all → AreMovesOf p left

@@ -25,7 +25,8 @@ abbrev pub hint_through : Plan → List HintMove → Hint → Hint
 hint_through p [] whole = whole
 hint_through p (m ∷ ms) whole = hint_through p ms (hint_with_entries p whole m.version m.count m.entries)
 
--- a hint that had the rows of a record in a whole hint has them in that hint after its moves, if it was moved on
+-- a hint that had the rows of a record in a whole hint has them in that hint after its moves, if it
+-- was moved on
 abbrev pub MovedRowsAreTheHints : Type 0
 MovedRowsAreTheHints = (k : ServerInfo) (i : ℕ) (ms : List HintMove) (whole before after : Hint) → HasRowsOf k whole i before →
     before.matrix.rows ≡ whole.matrix.rows → IsMovedOn k.plan i ms before after → HasRowsOf k (hint_through k.plan ms whole) i after
@@ -35,8 +36,8 @@ abbrev pub MovedRowsAreOfTheWhole : Type 0
 MovedRowsAreOfTheWhole = (p : Plan) (i : ℕ) (ms : List HintMove) (before rows whole : Hint) → IsMovedOn p i ms before rows →
     IsMovedWhole p ms before whole → record_rows p i rows.matrix ≡ record_rows p i whole.matrix
 
--- a move from one hint to another, each of which is made from scratch of records, by entries that lead from those to these; blanks stand for
--- records that were appended
+-- a move from one hint to another, each of which is made from scratch of records, by entries that
+-- lead from those to these; blanks stand for records that were appended
 pub record IsTrueMove (p : Plan) (m : HintMove) (hint next : WordMatrix) : Type 0 where
   pub before : List (List ℕ)
   pub after : List (List ℕ)

@@ -14,7 +14,8 @@ use Rattle.kept_changes.specs.declared.moving.Change.{Change}
 abbrev pub changed_record : Change → ChangedRecord
 changed_record c = record { index = c.index; old = c.old.now; new = c.new.now }
 
--- a move that a hint of this plan can be moved by: there is a layout of so many records, and its entries are of these
+-- a move that a hint of this plan can be moved by: there is a layout of so many records, and its
+-- entries are of these
 pub record IsMoveOf (p : Plan) (m : HintMove) : Type 0 where
   pub layout : IsLayout (shape_at p m.count)
   pub entries : AreEntries (shape_at p m.count) m.entries
@@ -37,8 +38,8 @@ moved_through p (m ∷ ms) hint = moved_through p ms (moved_once p m hint)
 abbrev pub record_rows : Plan → ℕ → WordMatrix → WordMatrix
 record_rows p i hint = rows_in_place (shape_at p (i + 1)) (i % p.groups) hint
 
--- A hint after moves, of which only the rows of record i count: if they are those of a whole hint before, they are those of that
--- hint after its moves.
+-- A hint after moves, of which only the rows of record i count: if they are those of a whole hint
+-- before, they are those of that hint after its moves.
 pub record IsMovedOn (p : Plan) (i : ℕ) (ms : List HintMove) (before after : Hint) : Type 0 where
   pub scheme : after.scheme ≡ before.scheme
   pub version : after.version ≡ last_version before.version ms

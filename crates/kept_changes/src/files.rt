@@ -14,7 +14,8 @@ use hint_changes::{PublicRow, are_entries};
 use matrix_u32::Kernel;
 use std::alloc::{AllocError, Global};
 
-/// The layout of the records that a block leads to: none exactly if they have none, or the block's entries are not of them.
+/// The layout of the records that a block leads to: none exactly if they have none, or the block's
+/// entries are not of them.
 pub(crate) fn layout_for(plan: &Plan, block: &Block<'_>) -> Option<Layout>
     ensures { MatchOption result (¬ IsMoveOf plan.now (move_of block.now))
         (λ layout. IsMoveOf plan.now (move_of block.now)
@@ -99,12 +100,14 @@ fn rows_through<K: Kernel>(
     Some(hint)
 }
 
-/// The rows of record `index` of a hint, moved by all whole blocks of its file of changes to the version after them; what the
-/// hint's other rows hold then is not said. A file with another head moves nothing. None exactly if some block's records have no
-/// layout, or its entries are not of these records: then the file is of no use.
+/// The rows of record `index` of a hint, moved by all whole blocks of its file of changes to the
+/// version after them; what the hint's other rows hold then is not said. A file with another head
+/// moves nothing. None exactly if some block's records have no layout, or its entries are not of
+/// these records: then the file is of no use.
 ///
-/// The plan's dimension is within the limits for whoever has been let in (`IsKnown`), and the hint has the rows and columns of the
-/// plan if `hint_file::parts_for` has found that it serves (`Serves`). A row of the public matrix is all the memory that is taken.
+/// The plan's dimension is within the limits for whoever has been let in (`IsKnown`), and the hint
+/// has the rows and columns of the plan if `hint_file::parts_for` has found that it serves
+/// (`Serves`). A row of the public matrix is all the memory that is taken.
 ///
 /// # Errors
 ///

@@ -4,7 +4,8 @@ ghost use Rattle.std.specs.Prelude.{◌≡◌, ◌<◌, ◌≤◌, ◌∷◌, []
 ghost use Rattle.seed_expand.specs.Words.{public_rows};
 ghost use Rattle.digit_pack.specs.Layout.{digit_cols, digit_rows};
 ghost use Rattle.hint_changes.specs.Changes.{moved, rows_in_place};
-ghost use Rattle.hint_changes.specs.Entries.{AreEntries, change_in, changes_in, entry_count, number_in};
+ghost use Rattle.hint_changes.specs.Entries.{AreEntries, change_in, changes_in, entry_count};
+ghost use Rattle.hint_changes.specs.Entries.{number_in};
 ghost use Rattle.kept_changes.specs.Moves.{changed_record};
 
 use byteorder::{ByteOrder, LittleEndian};
@@ -79,8 +80,9 @@ fn move_by_change<K: Kernel>(
     }
 }
 
-/// Moves the rows of a SimplePIR hint in one place of the columns by entries, under the first public matrix of a seed. What its
-/// other rows hold afterwards is not said: entries of other places are passed over. It takes no memory.
+/// Moves the rows of a SimplePIR hint in one place of the columns by entries, under the first
+/// public matrix of a seed. What its other rows hold afterwards is not said: entries of other
+/// places are passed over. It takes no memory.
 pub(crate) fn move_place<K: Kernel>(
     kernel: K,
     layout: &Layout,

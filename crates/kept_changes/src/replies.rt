@@ -81,9 +81,10 @@ fn is_asked(plan: &Plan, asked: u64, block: &Block<'_>) -> bool
         && have_slots(plan, block.entries)
 }
 
-/// What a reply says to an ask for the records that have changed since a version. The changes are those of the frame, in which its
-/// entries stay; they go from the version asked to one that is not 0, whose records have a layout with the plan known, and are of
-/// these records, ascending, with the bytes of records.
+/// What a reply says to an ask for the records that have changed since a version. The changes are
+/// those of the frame, in which its entries stay; they go from the version asked to one that is not
+/// 0, whose records have a layout with the plan known, and are of these records, ascending, with
+/// the bytes of records.
 pub fn judged<'a>(known: &ServerInfo, since: u64, reply: &'a Frame) -> ChangesReply<'a>
     ensures { IsJudged known.now.plan since reply.now result }
 {

@@ -73,12 +73,14 @@ fn whole_through<K: Kernel>(
     Some(hint)
 }
 
-/// The hint, moved by all whole blocks of its file of changes to the version after them: with this a client folds the file into the
-/// hint when it has grown long. A file with another head moves nothing. None exactly if some block's records have no layout, or its
-/// entries are not of these records: then the file is of no use, and the hint is to be read again.
+/// The hint, moved by all whole blocks of its file of changes to the version after them: with this
+/// a client folds the file into the hint when it has grown long. A file with another head moves
+/// nothing. None exactly if some block's records have no layout, or its entries are not of these
+/// records: then the file is of no use, and the hint is to be read again.
 ///
-/// The plan's dimension is within the limits for whoever has been let in (`IsKnown`), and the hint has the rows and columns of the
-/// plan, however many records there are, if it serves (`hint_file::Serves`). Its rows of one record are then those of `rows_after`
+/// The plan's dimension is within the limits for whoever has been let in (`IsKnown`), and the hint
+/// has the rows and columns of the plan, however many records there are, if it serves
+/// (`hint_file::Serves`). Its rows of one record are then those of `rows_after`
 /// (`laws::rows_are_of_the_whole`). A row of the public matrix is all the memory that is taken.
 ///
 /// # Errors

@@ -1,11 +1,13 @@
-//! Words to work on: those of a linear congruential generator, so that another program has the same.
+//! Words to work on: those of a linear congruential generator, so that another program has the
+//! same.
 
 ghost use Rattle.std.specs.Prelude.{◌≡◌, length, IfSome};
 
 use matrix_u32::Matrix;
 use std::alloc::Global;
 
-/// A matrix of words, of which the bits outside the mask are 0. None where there is no memory for it.
+/// A matrix of words, of which the bits outside the mask are 0. None where there is no memory for
+/// it.
 pub fn filled(alloc: Global, rows: usize, cols: usize, seed: u32, mask: u32) -> Option<Matrix>
     ensures { IfSome result (λ m. (m.rows ≡ rows) × (m.cols ≡ cols)) }
 {

@@ -1,10 +1,14 @@
 //! Times the kernels over lanes, and what is made with them.
 //!
-//! With no argument each piece of work is done once at small sizes, and its line is printed with one fixed time. With the
-//! argument `full` the kernels, the schemes' setups and a frame of 16 MiB are timed at the sizes of a large server, with `store` a
-//! publication in a store of the largest size, and one of 1,024 records of one byte in a store of 4,096. Each has a line of
-//! its own: the time of its quickest turn, what it read in a second, how many products it added in a second, and a sum of
-//! the words that it made. With `rate` one product is made 1,000 times, and its line has the mean. Fields are parted by tabs.
+//! With no argument each piece of work is done once at small sizes, and its line is printed with
+//! one fixed time. With the argument `full` the kernels, the schemes' setups and a frame of 16 MiB
+//! are timed at the sizes of a large server, with `store` a publication in a store of the largest
+//! size, and one of 1,024 records of one byte in a store of 4,096. Each has a line of its own: the
+//! time of its quickest turn, what it read in a second, how many products it added in a second, and
+//! a sum of the words that it made. With `rate` one product is made 1,000 times, and its line has
+//! the mean. Fields are parted by tabs.
+//!
+//! Its test is its own output, which the gate compares; that of the kernels is in `tests_scheme`.
 #![tactic(auto)]
 
 mod data;

@@ -15,8 +15,8 @@ const DIGITS: u64 = 64;
 // The record that is edited.
 const EDITED: usize = 17;
 
-/// Opens a store of `side` columns, publishes one record in each turn, of which each digit changes, and prints how long
-/// it took for each row of digits. None where memory or the clock is refused.
+/// Opens a store of `side` columns, publishes one record in each turn, of which each digit changes,
+/// and prints how long it took for each row of digits. None where memory or the clock is refused.
 pub fn time_publication(rt: &HostRuntime, sizes: BenchSizes) -> Option<()> {
     let mut store = opened(rt.alloc(), header_of(sizes))?;
     let took = publications(rt, sizes.turns, &mut store)?;
@@ -38,8 +38,9 @@ fn publications(rt: &HostRuntime, turns: u32, store: &mut Store<Lanes>) -> Optio
     Some(least)
 }
 
-/// Opens a store with a row of digits for each of `side` records of one byte, publishes a quarter of them in each turn,
-/// which stand one after another, and prints how long it took. None where memory or the clock is refused.
+/// Opens a store with a row of digits for each of `side` records of one byte, publishes a quarter
+/// of them in each turn, which stand one after another, and prints how long it took. None where
+/// memory or the clock is refused.
 pub fn time_neighbours(rt: &HostRuntime, sizes: BenchSizes) -> Option<()> {
     let header = Header {
         form: 1,

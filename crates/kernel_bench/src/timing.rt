@@ -1,4 +1,5 @@
-//! Each kernel, timed. A time is that of the quickest turn, in nanoseconds; None where there is no clock.
+//! Each kernel, timed. A time is that of the quickest turn, in nanoseconds; None where there is no
+//! clock.
 
 ghost use Rattle.std.specs.Prelude.{◌≡◌, ◌≤◌, ◌*◌, length, OnSome};
 ghost use Rattle.matrix_u32.specs.Matrix.{product};

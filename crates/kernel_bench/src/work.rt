@@ -19,14 +19,16 @@ pub struct BenchSizes {
     /// How many records share a column.
     pub groups: u16,
     pub turns: u32,
-    /// The time that is printed in place of each that was measured, so that all lines are known before.
+    /// The time that is printed in place of each that was measured, so that all lines are known
+    /// before.
     pub nanos: Option<u64>,
 }
 
 // The bits of a digit.
 const DIGIT: u32 = 1023;
 
-/// Does every piece of work, and prints how long each took. None where memory or the clock is refused.
+/// Does every piece of work, and prints how long each took. None where memory or the clock is
+/// refused.
 pub fn time_kernels(rt: &HostRuntime, sizes: BenchSizes) -> Option<()> {
     let side = usize::from(sizes.side);
     let digits = filled(rt.alloc(), side, side, 1, DIGIT)?;
@@ -94,7 +96,8 @@ fn packed_product(rt: &HostRuntime, turns: u32, store: &Packed3) -> Option<Figur
     ))
 }
 
-/// Multiplies the digits of a store by a vector so many times one after another, and prints how long one took at the mean.
+/// Multiplies the digits of a store by a vector so many times one after another, and prints how
+/// long one took at the mean.
 pub fn time_rate(rt: &HostRuntime, sizes: BenchSizes, turns: u32) -> Option<()> {
     let side = usize::from(sizes.side);
     let digits = filled(rt.alloc(), side, side, 1, DIGIT)?;

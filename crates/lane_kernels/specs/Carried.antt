@@ -24,7 +24,8 @@ abbrev pub products_at : List ℕ → List ℕ → ℕ → ℕ → ℕ
 products_at words x at t =
     digit_products (slice_index words (at + t)) (slice_index x (3 * t)) (slice_index x (3 * t + 1)) (slice_index x (3 * t + 2))
 
--- a list to which the products of `count` words of its rows of packed words, from word `start` on, were added
+-- a list to which the products of `count` words of its rows of packed words, from word `start` on,
+-- were added
 abbrev pub plus_part : List ℕ → List ℕ → List ℕ → ℕ → ℕ → ℕ → List ℕ
 plus_part out packed x words start count =
     list_of (length out) (λ q. (slice_index out q + sum_below count (λ t. products_at packed x (q * words) (start + t))) % 2 ^ 32)

@@ -13,7 +13,8 @@ abbrev pub plus_products : WordMatrix → WordMatrix → WordMatrix → ℕ → 
 plus_products out a b start n =
     matrix_of out.rows out.cols (λ i j. (entry out i j + sum_below n (λ k. entry a i (start + k) * entry b (start + k) j)) % 2 ^ 32)
 
--- a matrix whose rows below i have the products of a block added, and whose other rows are as they were
+-- a matrix whose rows below i have the products of a block added, and whose other rows are as they
+-- were
 pub record AddedBelow (old a b : WordMatrix) (start count i : ℕ) (m : WordMatrix) : Type 0 where
   pub rows : m.rows ≡ old.rows
   pub cols : m.cols ≡ old.cols

@@ -1,8 +1,10 @@
 //! The kernel over lanes.
 
-ghost use Rattle.std.specs.Prelude.{◌≡◌, ℕ, ◌<◌, ◌≤◌, ◌+◌, ◌*◌, ◌%◌, ◌^◌, ◌∷◌, [], length, slice_index};
+ghost use Rattle.std.specs.Prelude.{◌≡◌, ℕ, ◌<◌, ◌≤◌, ◌+◌, ◌*◌, ◌%◌, ◌^◌, ◌∷◌, [], length};
+ghost use Rattle.std.specs.Prelude.{slice_index};
 ghost use Rattle.matrix_u32.specs.Sum.{dot};
-ghost use Rattle.matrix_u32.specs.Matrix.{IsWhole, row, product, times_vector, plus_scaled, zero_matrix};
+ghost use Rattle.matrix_u32.specs.Matrix.{IsWhole, row, product, times_vector, plus_scaled};
+ghost use Rattle.matrix_u32.specs.Matrix.{zero_matrix};
 ghost use Rattle.matrix_u32.specs.Blocks.{plus_rows};
 ghost use Rattle.lane_kernels.specs.Rows.{plus_four, plus_products};
 
@@ -137,8 +139,8 @@ fn add_scaled_rest(out: &mut [u32], x: &[u32], k: u32, from: usize)
     }
 }
 
-// Adds four rows at once, p times f, q times g, r times h and s times e, so that out is read and written
-// once for them.
+// Adds four rows at once, p times f, q times g, r times h and s times e, so that out is read and
+// written once for them.
 fn add_four(
     out: &mut [u32],
     p: &[u32],
@@ -265,9 +267,9 @@ fn clear(m: &mut Matrix)
 // The most rows of out that stay near the processor while all rows of b pass.
 const NEAR_ROWS: usize = 64;
 
-// How many inner places are taken at a time in a product of so many rows. Where out stays near, four: their rows
-// of b then stay nearest while all rows of out pass. Else as many as keep their rows of b near, so that out is
-// read and written less often.
+// How many inner places are taken at a time in a product of so many rows. Where out stays near,
+// four: their rows of b then stay nearest while all rows of out pass. Else as many as keep their
+// rows of b near, so that out is read and written less often.
 fn block_of(rows: usize) -> usize
     ensures { 0 < result }
 {

@@ -1,11 +1,11 @@
-//! Products of words over lanes: a kernel that takes several words at once, products with digits that are
-//! packed three in a word, and the digits of words.
+//! Products of words over lanes: a kernel that takes several words at once, products with digits
+//! that are packed three in a word, and the digits of words.
 //!
-//! Everything here gives the very words of the definitions, at every length and shape, and nothing takes
-//! memory. The loops go over vectors of 8 or 16 words by `std::simd`; what is left after the last whole
-//! vector is done word by word.
+//! Everything here gives the very words of the definitions, at every length and shape, and nothing
+//! takes memory. The loops go over vectors of 8 or 16 words by `std::simd`; what is left after the
+//! last whole vector is done word by word.
 //!
-//! Its tests are in `scheme_tests::lanes`.
+//! Its tests are in `tests_scheme::lanes`.
 #![tactic(auto)]
 
 mod lanes;

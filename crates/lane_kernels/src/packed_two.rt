@@ -8,8 +8,9 @@ ghost use Rattle.lane_kernels.specs.Carried.{shifted_sum, plus_part};
 use crate::packed::{PART, add_part_singly, carried, part, piece, rest_sum, row_words};
 use std::simd::prelude::*;
 
-/// Writes the products of a packed matrix of digits with `x` and with `y` into `x_out` and `y_out`, whatever they
-/// held: what two calls of [`packed_mul_vec`](crate::packed_mul_vec) write. The digits are read once for both.
+/// Writes the products of a packed matrix of digits with `x` and with `y` into `x_out` and `y_out`,
+/// whatever they held: what two calls of [`packed_mul_vec`](crate::packed_mul_vec) write. The
+/// digits are read once for both.
 pub fn packed_mul_two(
     packed: &[u32],
     cols: usize,
@@ -83,8 +84,8 @@ fn add_part_two(
     add_part_singly(packed, words, start, twos * 2, d, e, f, y_out);
 }
 
-// Two rows with two prepared vectors, so that these are read once for both rows, and the rows once for both
-// vectors.
+// Two rows with two prepared vectors, so that these are read once for both rows, and the rows once
+// for both vectors.
 fn two_by_two(
     p: &[u32],
     q: &[u32],

@@ -5,8 +5,9 @@ ghost use Rattle.lane_kernels.specs.Digit.{split_count, split_words};
 
 use std::simd::prelude::*;
 
-/// Writes digit k of each word of `x` into `out`: with digits of w bits, w in 6..=10, it is the word
-/// divided by 2^(w k), modulo 2^w. A word has 32 / w digits, rounded up; the last can be shorter.
+/// Writes digit k of each word of `x` into `out`: with digits of w bits, w in 6..=10, it is the
+/// word divided by 2^(w k), modulo 2^w. A word has 32 / w digits, rounded up; the last can be
+/// shorter.
 pub fn split_row(x: &[u32], w: u32, k: u32, out: &mut [u32])
     requires room { length out.old ≡ length x.now }
     requires width { (6 ≤ w) × (w ≤ 10) }

@@ -1,6 +1,7 @@
 //! Products of two neighbouring rows at once, for which the rows of the right matrix are read once.
 
-ghost use Rattle.std.specs.Prelude.{◌≡◌, ◌<◌, ◌≤◌, ◌+◌, ◌*◌, ◌/◌, ◌^◌, ◌++◌, length, take, drop, slice_index};
+ghost use Rattle.std.specs.Prelude.{◌≡◌, ◌<◌, ◌≤◌, ◌+◌, ◌*◌, ◌/◌, ◌^◌, ◌++◌, length, take, drop};
+ghost use Rattle.std.specs.Prelude.{slice_index};
 ghost use Rattle.matrix_u32.specs.Matrix.{IsWhole};
 ghost use Rattle.matrix_u32.specs.Blocks.{plus_rows};
 ghost use Rattle.lane_kernels.specs.Rows.{AddedBelow, plus_four};
@@ -9,7 +10,8 @@ use crate::lanes::{add_four_rest, add_rows_singly};
 use matrix_u32::Matrix;
 use std::simd::prelude::*;
 
-/// Adds to each word of out, but for those of an odd last row, the products of `count` inner places from start on.
+/// Adds to each word of out, but for those of an odd last row, the products of `count` inner places
+/// from start on.
 pub(crate) fn add_pairs(a: &Matrix, b: &Matrix, start: usize, count: usize, out: &mut Matrix)
     requires fits { a.now.cols ≡ b.now.rows }
     requires inside { start + count ≤ a.now.cols }
@@ -28,7 +30,8 @@ pub(crate) fn add_pairs(a: &Matrix, b: &Matrix, start: usize, count: usize, out:
     }
 }
 
-// Adds the rows of b from start on to two rows that stand one behind the other, each times its factor for either.
+// Adds the rows of b from start on to two rows that stand one behind the other, each times its
+// factor for either.
 fn add_rows_to_pair(both: &mut [u32], first: &[u32], second: &[u32], b: &Matrix, start: usize)
     requires width { length both.old ≡ b.now.cols + b.now.cols }
     requires same_factors { length second.now ≡ length first.now }
@@ -78,8 +81,9 @@ fn add_rows_to_two(
     add_rows_singly(y, &second[done..], b, start + done);
 }
 
-// Adds four rows to two lists, each times its factor for either, so that they are read once for both. Eight words at
-// a time leave room in the registers for the eight factors, the four rows and the two sums.
+// Adds four rows to two lists, each times its factor for either, so that they are read once for
+// both. Eight words at a time leave room in the registers for the eight factors, the four rows and
+// the two sums.
 fn add_four_to_two(
     x: &mut [u32],
     y: &mut [u32],

@@ -18,7 +18,8 @@ replayed_push h m h' bytes between bytes' [] p before last =
 replayed_push h m h' bytes between bytes' (q ∷ qs) p (k, b, first, rest) last =
     (k, b, first, replayed_push k m h' b between bytes' qs p rest last)
 
--- so many publications were made on the records, and the bytes that are left are the entries of the others
+-- so many publications were made on the records, and the bytes that are left are the entries of the
+-- others
 pub record AreMade (h : Header) (bytes : List ℕ) (ps : List Published) (n : ℕ) (h' : Header) (bytes' rest : List ℕ) : Type 0 where
   pub done : List Published
   pub left : List Published

@@ -165,7 +165,8 @@ same_logs : (s : StoreState) (log : List (List ℕ)) (olds : List (List OldRecor
 same_logs s log olds rows bytes =
     ap (λ (l : List (List ℕ)). with_logs l olds s) rows ∙ ap (λ (o : List (List OldRecord)). with_logs s.log o s) bytes
 
--- stores that differ in their logs, which are the same for so many, keep the same once enough publications came
+-- stores that differ in their logs, which are the same for so many, keep the same once enough
+-- publications came
 logs_meet : (ps : List Published) (s : StoreState) (log : List (List ℕ)) (olds : List (List OldRecord)) (n : ℕ) → take n log ≡ take n s.log →
     take 16 log ≡ log → take 16 s.log ≡ s.log → MeetAfter s.edition.plan n olds s.olds → length s.olds ≤ 16 →
     16 ≤ n + length ps → replayed_all ps (with_logs log olds s) ≡ replayed_all ps s

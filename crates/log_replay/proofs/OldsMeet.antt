@@ -49,8 +49,8 @@ kept_after len most (oldest ∷ before) lists =
 
 -- ---- two stores after the same publications
 
--- what two stores keep after so many publications, if one was opened before them: the same; or both are wide, and the other store keeps
--- some more of earlier ones
+-- what two stores keep after so many publications, if one was opened before them: the same; or both
+-- are wide, and the other store keeps some more of earlier ones
 abbrev pub MeetAfter : Plan → ℕ → List (List OldRecord) → List (List OldRecord) → Type 0
 MeetAfter p n olds others =
     (olds ≡ others) ⊎ (is_wide p.form ≡ true) × (n ≤ length olds) × (before : List (List OldRecord)) × (others ≡ before ++ olds)

@@ -13,7 +13,8 @@ abbrev pub ReplayedIsPublished : Type 0
 ReplayedIsPublished = (p : Published) (s : StoreState) →
     replayed p s ≡ held_published (record s { draft = records_after s.draft p.changes })
 
--- the publication of a store's draft, replayed on the store without its draft, gives what the store's own publication gives
+-- the publication of a store's draft, replayed on the store without its draft, gives what the
+-- store's own publication gives
 abbrev pub DraftIsReplayed : Type 0
 DraftIsReplayed = (s : StoreState) (p : Published) → IsDraftOf s p → replayed p (without_draft s) ≡ held_published s
 
@@ -27,14 +28,15 @@ AreRecordsReplayedAll h bytes (p ∷ ps) h' bytes' =
 abbrev pub with_logs : List (List ℕ) → List (List OldRecord) → StoreState → StoreState
 with_logs log olds s = record s { log = log; olds = olds }
 
--- a store that is opened with a snapshot after publications keeps what the store that is opened with the snapshot before them keeps
--- after them, but the rows and the old bytes that they changed
+-- a store that is opened with a snapshot after publications keeps what the store that is opened
+-- with the snapshot before them keeps after them, but the rows and the old bytes that they changed
 abbrev pub RecordsReplayAlike : Type 0
 RecordsReplayAlike = (h h' : Header) (bytes bytes' : List ℕ) (ps : List Published) → AreRecordsReplayedAll h bytes ps h' bytes' →
     held_of h' bytes' ≡ with_logs [] [] (replayed_all ps (held_of h bytes))
 
--- a store that is opened with a later snapshot, and on which 16 publications or more are replayed, keeps what the store keeps that is
--- opened with the first snapshot and on which all are replayed, the rows and the old bytes that the latest 16 changed too
+-- a store that is opened with a later snapshot, and on which 16 publications or more are replayed,
+-- keeps what the store keeps that is opened with the first snapshot and on which all are replayed,
+-- the rows and the old bytes that the latest 16 changed too
 abbrev pub LastSixteenSuffice : Type 0
 LastSixteenSuffice = (h h' : Header) (bytes bytes' : List ℕ) (earlier latest : List Published) → AreRecordsReplayedAll h bytes earlier h' bytes' →
     16 ≤ length latest → replayed_all latest (held_of h' bytes') ≡ replayed_all (earlier ++ latest) (held_of h bytes)

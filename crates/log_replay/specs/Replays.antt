@@ -32,12 +32,14 @@ count_after count c = if nat_lt c.place count then count else count + 1
 abbrev pub has_place : Plan → ℕ → ℕ → Bool
 has_place plan count place = nat_lt place count || ((place == count) && is_layout (shape_at plan (count + 1)))
 
--- whether changes can be made to so many records, one after another: each has a place, and bytes that can be a record
+-- whether changes can be made to so many records, one after another: each has a place, and bytes
+-- that can be a record
 abbrev pub are_changes_of : Plan → ℕ → List Placed → Bool
 are_changes_of plan count [] = true
 are_changes_of plan count (c ∷ cs) = (has_place plan count c.place && fits plan c.bytes) && are_changes_of plan (count_after count c) cs
 
--- whether a publication follows a version of so many records: it is the next one, it changes something, and its changes can be made
+-- whether a publication follows a version of so many records: it is the next one, it changes
+-- something, and its changes can be made
 abbrev pub is_replayable : Plan → ℕ → ℕ → Published → Bool
 is_replayable plan version count p = (p.version == (version + 1)) && (nat_lt 0 (length p.changes) && are_changes_of plan count p.changes)
 
@@ -84,13 +86,15 @@ pub record HasNoDraft (s : StoreState) : Type 0 where
   pub unmarked : s.marked ≡ false
   pub draft : s.draft ≡ s.edition.records
 
--- changes that can be made to the current records of a store, and make its draft of them; there is one if the draft is marked
+-- changes that can be made to the current records of a store, and make its draft of them; there is
+-- one if the draft is marked
 pub record IsDraftMade (s : StoreState) (cs : List Placed) : Type 0 where
   pub some : s.marked ≡ true → 0 < length cs
   pub each : are_changes_of s.edition.plan (length s.edition.records) cs ≡ true
   pub made : records_after s.edition.records cs ≡ s.draft
 
--- a publication of a store's draft: it follows the current version, and its changes make the draft of the current records
+-- a publication of a store's draft: it follows the current version, and its changes make the draft
+-- of the current records
 pub record IsDraftOf (s : StoreState) (p : Published) : Type 0 where
   pub next : is_next_of s p ≡ true
   pub made : records_after s.edition.records p.changes ≡ s.draft

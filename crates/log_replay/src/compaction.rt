@@ -15,7 +15,8 @@ use publication_log::Publications;
 /// Of how many publications a store knows the rows that changed.
 const LATEST: usize = 16;
 
-/// How many publications of a log a later snapshot takes up: all but the latest 16, with which nothing is missing.
+/// How many publications of a log a later snapshot takes up: all but the latest 16, with which
+/// nothing is missing.
 pub fn earlier_count(publications: Publications<'_>) -> usize
     ensures { (link : List ℕ) (version : ℕ) (ps : List Published) → AreNext version ps →
         publications.entry.rest.now ≡ chain_bytes link (bodies_of ps) → result ≡ length ps - 16 }

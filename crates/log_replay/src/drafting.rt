@@ -28,13 +28,15 @@ pub enum DraftFault {
     Memory,
 }
 
-/// The publication of a store's draft, which is appended to the log before the store publishes: replayed on the store as it
-/// is without its draft, it gives what the store's own publication gives.
+/// The publication of a store's draft, which is appended to the log before the store publishes:
+/// replayed on the store as it is without its draft, it gives what the store's own publication
+/// gives.
 ///
 /// # Errors
 ///
-/// `NothingToPublish` exactly when no edit and no append was accepted since the last publication; else `VersionsUsedUp`
-/// exactly when the current version is 2^64 - 1; else it is made, or `TooLong`, or `Memory`.
+/// `NothingToPublish` exactly when no edit and no append was accepted since the last publication;
+/// else `VersionsUsedUp` exactly when the current version is 2^64 - 1; else it is made, or
+/// `TooLong`, or `Memory`.
 pub fn draft_publication<K: Kernel>(
     alloc: Global,
     store: &Store<K>,

@@ -1,13 +1,14 @@
 //! What holds a snapshot's records while the publications of a log are made on them.
 
-ghost use Rattle.std.specs.Prelude.{◌≡◌, ◌≤◌, ◌<◌, ◌+◌, ◌++◌, ◌∷◌, [], ℕ, List, OnOk, OnErr, slice_set, true};
+ghost use Rattle.std.specs.Prelude.{◌≡◌, ◌≤◌, ◌<◌, ◌+◌, ◌++◌, ◌∷◌, [], ℕ, List, OnOk, OnErr};
+ghost use Rattle.std.specs.Prelude.{slice_set, true};
 ghost use Rattle.digit_pack.specs.Layout.{IsLayout};
 ghost use Rattle.pir_schemes.specs.Plans.{fits, shape_at};
 ghost use Rattle.snapshot_file.specs.declared.snapshot.Header.{Header};
 ghost use Rattle.version_store.specs.Openings.{IsSound, plan_held, records_for};
 ghost use Rattle.log_replay.specs.Records.{with_count, with_version};
 
-use digit_pack::MAX_RECORD_LEN;
+use digit_pack::record_buffer;
 use pir_schemes::Plan;
 use snapshot_file::Snapshot;
 use std::alloc::AllocError;
@@ -68,11 +69,6 @@ pub trait RecordHolder: Sized + Drop {
         ensures bytes { bytes self.new ≡ bytes self.old };
 }
 
-// Room for the bytes that a record has in the digits. They are not said, which keeps them out of the proofs.
-fn slot_room() -> [u8; MAX_RECORD_LEN] {
-    [0; MAX_RECORD_LEN]
-}
-
 impl RecordHolder for Snapshot {
     ghost use Rattle.snapshot_file.specs.Snapshots.{header_of};
 
@@ -103,7 +99,7 @@ impl RecordHolder for Snapshot {
         let plan = plan_in(self);
         // Called for what it says of the count: there is room for one more.
         plan.layout(self.count as usize + 1).unwrap();
-        let mut room = slot_room();
+        let mut room = record_buffer();
         let slot = &mut room[..usize::from(plan.record_len)];
         plan.fill(record_bytes, slot);
         self.records.extend_from_slice(slot)?;

@@ -1,15 +1,17 @@
 //! Whether a publication follows a version.
 
-ghost use Rattle.std.specs.Prelude.{◌≡◌, ◌+◌, ◌↔◌, ◌&&◌, ℕ, List, IsTrue, nat_lt, if◌then◌else◌, true, false};
+ghost use Rattle.std.specs.Prelude.{◌≡◌, ◌+◌, ◌↔◌, ◌&&◌, ℕ, List, IsTrue, nat_lt, if◌then◌else◌};
+ghost use Rattle.std.specs.Prelude.{true, false};
 ghost use Rattle.pir_schemes.specs.Plans.{fits};
 ghost use Rattle.publication_log.specs.Publications.{Placed, Published, changes_bytes, AreChanges};
-ghost use Rattle.log_replay.specs.Replays.{IsPublicationOf, has_place, are_changes_of, is_replayable};
+ghost use Rattle.log_replay.specs.Replays.{IsPublicationOf, has_place, are_changes_of};
+ghost use Rattle.log_replay.specs.Replays.{is_replayable};
 
 use pir_schemes::Plan;
 use publication_log::{Change, Changes, Publication};
 
-// Whether a publication follows a version of so many records: it is the next one, it changes something, and its changes
-// can be made. It takes no memory.
+// Whether a publication follows a version of so many records: it is the next one, it changes
+// something, and its changes can be made. It takes no memory.
 pub(crate) fn is_replayable(
     plan: &Plan,
     version: u64,

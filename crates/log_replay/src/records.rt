@@ -1,10 +1,12 @@
 //! The publications of a log, made on a snapshot's records alone.
 
-ghost use Rattle.std.specs.Prelude.{◌≡◌, ◌<◌, ◌^◌, ◌∷◌, [], ◌↔◌, ℕ, List, Err, OnOk, IsErrOf, false};
+ghost use Rattle.std.specs.Prelude.{◌≡◌, ◌<◌, ◌^◌, ◌∷◌, [], ◌↔◌, ℕ, List, Err, OnOk, IsErrOf};
+ghost use Rattle.std.specs.Prelude.{false};
 ghost use Rattle.publication_log.specs.Publications.{Placed, Published, changes_bytes, AreChanges};
 ghost use Rattle.version_store.specs.Openings.{IsSound, plan_held};
 ghost use Rattle.log_replay.specs.Replays.{IsPublicationOf};
-ghost use Rattle.log_replay.specs.Records.{AreRecordsChanged, AreRecordsReplayed, is_next_of_snapshot};
+ghost use Rattle.log_replay.specs.Records.{AreRecordsChanged, AreRecordsReplayed};
+ghost use Rattle.log_replay.specs.Records.{is_next_of_snapshot};
 
 use crate::held::RecordHolder;
 use crate::judging::is_replayable;
@@ -12,13 +14,14 @@ use crate::replaying::ReplayFault;
 use pir_schemes::Plan;
 use publication_log::{Changes, Publication};
 
-/// Makes a publication of a log on a snapshot's records: its version, its count and its bytes become those of the next
-/// version. No hint is made.
+/// Makes a publication of a log on a snapshot's records: its version, its count and its bytes
+/// become those of the next version. No hint is made.
 ///
 /// # Errors
 ///
-/// `BadPublication` exactly when the publication does not follow the snapshot's version: nothing changes then. After `Memory`
-/// some of its changes may be made, and the snapshot is of no more use.
+/// `BadPublication` exactly when the publication does not follow the snapshot's version: nothing
+/// changes then. After `Memory` some of its changes may be made, and the snapshot is of no more
+/// use.
 pub fn replay_records<H: RecordHolder>(
     held: &mut H,
     publication: Publication<'_>,
@@ -67,7 +70,8 @@ fn put_changes<H: RecordHolder>(
     Ok(())
 }
 
-// Makes a change in the records of a plan: `BadPublication` if the bytes can't be a record, or no layout has one record more.
+// Makes a change in the records of a plan: `BadPublication` if the bytes can't be a record, or no
+// layout has one record more.
 fn put_change<H: RecordHolder>(
     plan: &Plan,
     held: &mut H,

@@ -1,10 +1,12 @@
 //! The publications of a log, made on a store.
 
-ghost use Rattle.std.specs.Prelude.{◌≡◌, ◌↔◌, ℕ, List, Err, OnOk, IsErrOf, length, true, false, nat_lt, if◌then◌else◌};
+ghost use Rattle.std.specs.Prelude.{◌≡◌, ◌↔◌, ℕ, List, Err, OnOk, IsErrOf, length, true, false};
+ghost use Rattle.std.specs.Prelude.{nat_lt, if◌then◌else◌};
 ghost use Rattle.publication_log.specs.Publications.{Placed, Published, changes_bytes, AreChanges};
 ghost use Rattle.publication_log.specs.Entries.{chain_bytes};
 ghost use Rattle.publication_log.specs.Logs.{bodies_of, AreNext};
-ghost use Rattle.version_store.specs.Histories.{History, StandsFor, held_after, held_edited, held_appended};
+ghost use Rattle.version_store.specs.Histories.{History, StandsFor, held_after, held_edited};
+ghost use Rattle.version_store.specs.Histories.{held_appended};
 ghost use Rattle.log_replay.specs.Replays.{
   IsPublicationOf,
   HasNoDraft,
@@ -26,8 +28,9 @@ use version_store::{EditError, Store};
 /// Why a publication was not replayed.
 #[derive(Clone, Copy, Debug, PartialEq, Eq, Error)]
 pub enum ReplayFault {
-    /// It does not follow: its version is not the next one, it changes nothing, or one of its changes can't be made, because
-    /// its place is past the next one, its bytes can't be a record, or no layout has one record more.
+    /// It does not follow: its version is not the next one, it changes nothing, or one of its
+    /// changes can't be made, because its place is past the next one, its bytes can't be a record,
+    /// or no layout has one record more.
     #[error("the publication does not follow the version before it")]
     BadPublication,
     /// Memory was refused.
@@ -39,8 +42,9 @@ pub enum ReplayFault {
 ///
 /// # Errors
 ///
-/// `BadPublication` exactly when the publication does not follow the store's version: nothing changes then. After `Memory` some
-/// of its changes may be in the draft, and the store is of no more use.
+/// `BadPublication` exactly when the publication does not follow the store's version: nothing
+/// changes then. After `Memory` some of its changes may be in the draft, and the store is of no
+/// more use.
 pub fn replay<K: Kernel>(
     store: &mut Store<K>,
     publication: Publication<'_>,
@@ -106,7 +110,8 @@ pub fn replay_all<K: Kernel>(
 
 // Makes changes in a store's draft. After an `Err` some of them may be in the draft.
 fn make_changes<K: Kernel>(store: &mut Store<K>, changes: Changes<'_>) -> Result<(), EditError>
-    ensures { (low : ℕ) (cs : List Placed) → AreChanges low cs → changes.entry.rest.now ≡ changes_bytes cs →
+    ensures { (low : ℕ) (cs : List Placed) → AreChanges low cs →
+        changes.entry.rest.now ≡ changes_bytes cs →
         OnOk result (store.new ≡
         held_after (edits_and_appends (length store.old.draft) cs) store.old) }
 {
@@ -118,7 +123,8 @@ fn make_changes<K: Kernel>(store: &mut Store<K>, changes: Changes<'_>) -> Result
     Ok(())
 }
 
-// Replaces a record of a store's draft, or puts one after the others if there is none at this place.
+// Replaces a record of a store's draft, or puts one after the others if there is none at this
+// place.
 fn make_change<K: Kernel>(store: &mut Store<K>, place: usize, bytes: &[u8]) -> Result<(), EditError>
     ensures { OnOk result (store.new ≡ if nat_lt place (length store.old.draft)
         then held_edited place bytes.now store.old else held_appended bytes.now store.old) }

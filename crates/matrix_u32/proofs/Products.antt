@@ -35,7 +35,8 @@ pub dot-list : (x y : List ℕ) → dot x y ≡ sum_below (length x) (λ k. slic
 unfolding dot
 dot-list x y = refl
 
--- the sum of x k (a k j) (s j) over all k and j, summed one way or the other, with a reduction after the inner sum
+-- the sum of x k (a k j) (s j) over all k and j, summed one way or the other, with a reduction
+-- after the inner sum
 pub both_ways : (n m : ℕ) (x : ℕ → ℕ) (a : ℕ → ℕ → ℕ) (s : ℕ → ℕ) →
     sum_below m (λ j. (sum_below n (λ k. x k * a k j) % 2 ^ 32) * s j) % 2 ^ 32 ≡ sum_below n (λ k. x k * (sum_below m (λ j. a k j * s j) % 2 ^ 32)) % 2 ^ 32
 both_ways n m x a s =

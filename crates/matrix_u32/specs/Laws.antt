@@ -25,11 +25,13 @@ ChangedWordChangesItsRow = (d a : WordMatrix) (i j word : ℕ) →
 abbrev pub ZeroColumnsAddNothing : Type 0
 ZeroColumnsAddNothing = (d a : WordMatrix) (cols : ℕ) → d.cols ≤ cols → product (widened d cols) a ≡ product d a
 
--- a product takes as many rows of its right factor as the left one has columns, and any further ones leave it
+-- a product takes as many rows of its right factor as the left one has columns, and any further
+-- ones leave it
 abbrev pub FurtherRowsAddNothing : Type 0
 FurtherRowsAddNothing = (d a : WordMatrix) (n : ℕ) → d.cols ≤ n → n ≤ a.rows → product d a ≡ product d (first_rows a n)
 
--- a product whose left factor is given columns of zeros, and the right one further rows, stays as it was
+-- a product whose left factor is given columns of zeros, and the right one further rows, stays as
+-- it was
 abbrev pub GrowthLeavesProduct : Type 0
 GrowthLeavesProduct = (d a : WordMatrix) (cols : ℕ) (words : List ℕ) →
     IsWhole a → d.cols ≤ a.rows → d.cols ≤ cols → product (widened d cols) (with_rows a words) ≡ product d a

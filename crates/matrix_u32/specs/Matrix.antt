@@ -88,6 +88,7 @@ with_row a i words = matrix_of a.rows a.cols (λ r j. if r == i then slice_index
 abbrev pub overwritten : ℕ → List ℕ → List ℕ → List ℕ
 overwritten place new old = take (length old) (take place old ++ (new ++ drop (length new) (drop place old)))
 
--- the matrix with words written over it from the start of row i on; as many as there are columns give `with_row`
+-- the matrix with words written over it from the start of row i on; as many as there are columns
+-- give `with_row`
 abbrev pub written_row : WordMatrix → ℕ → List ℕ → WordMatrix
 written_row a i words = record a { words = overwritten (i * a.cols) words a.words }

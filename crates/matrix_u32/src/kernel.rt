@@ -7,18 +7,19 @@ ghost use Rattle.matrix_u32.specs.Blocks.{plus_rows};
 
 use crate::matrix::Matrix;
 
-/// What makes products of words. All arithmetic is modulo 2^32: each word of a result is the sum of the
-/// products over whole numbers, reduced once at the end.
+/// What makes products of words. All arithmetic is modulo 2^32: each word of a result is the sum of
+/// the products over whole numbers, reduced once at the end.
 ///
-/// Every implementation gives the same words, so code above is proved once for all of them. It writes four
-/// calls; `add_rows` goes by `add_scaled` where no faster way is written.
+/// Every implementation gives the same words, so code above is proved once for all of them. It
+/// writes four calls; `add_rows` goes by `add_scaled` where no faster way is written.
 pub trait Kernel: Copy {
     /// The dot product x . y of two lists of the same length.
     fn dot(self, x: &[u32], y: &[u32]) -> u32
         requires { length x.now ≡ length y.now }
         ensures { result ≡ dot x.now y.now };
 
-    /// Writes a x into `out`, whatever it held: `x` has a word for each column of `a`, `out` one for each row.
+    /// Writes a x into `out`, whatever it held: `x` has a word for each column of `a`, `out` one
+    /// for each row.
     fn mul_vec(self, a: &Matrix, x: &[u32], out: &mut [u32])
         requires x_fits { length x.now ≡ a.now.cols }
         requires out_fits { length out.old ≡ a.now.rows }
@@ -50,8 +51,8 @@ pub trait Kernel: Copy {
     }
 }
 
-/// The plain kernel: one word after the other, as the definitions say it. It is what faster kernels are
-/// compared with.
+/// The plain kernel: one word after the other, as the definitions say it. It is what faster kernels
+/// are compared with.
 #[derive(Clone, Copy, Debug)]
 pub struct Plain;
 

@@ -1,5 +1,5 @@
-//! Laws of products, over the definitions alone. A caller that calls one of these functions has its law at
-//! hand in its proof; the call costs nothing.
+//! Laws of products, over the definitions alone. A caller that calls one of these functions has its
+//! law at hand in its proof; the call costs nothing.
 
 ghost use Rattle.matrix_u32.specs.Laws.{
   ProductIsAssociative,

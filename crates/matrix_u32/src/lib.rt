@@ -1,8 +1,8 @@
 //! Matrices of 32-bit words, and the products that a kernel makes of them.
 //!
-//! A word is a whole number below 2^32, and all arithmetic is modulo 2^32. `specs/` says what a matrix, a
-//! dot product and a matrix product are; the contracts here cite it. The functions of [`laws`] have empty
-//! bodies: their contracts are the laws of these definitions.
+//! A word is a whole number below 2^32, and all arithmetic is modulo 2^32. `specs/` says what a
+//! matrix, a dot product and a matrix product are; the contracts here cite it. The functions of
+//! [`laws`] have empty bodies: their contracts are the laws of these definitions.
 //!
 //! Its tests are in `matrix::tests` and `kernel::tests`.
 #![tactic(auto)]

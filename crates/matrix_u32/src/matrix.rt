@@ -1,6 +1,7 @@
 //! A matrix of words.
 
-ghost use Rattle.std.specs.Prelude.{◌≡◌, ◌≢◌, ℕ, ◌+◌, ◌*◌, ◌/◌, ◌<◌, ◌≤◌, ◌⊎◌, ◌++◌, length, IfOk, IfErr, OnOk, OnErr};
+ghost use Rattle.std.specs.Prelude.{◌≡◌, ◌≢◌, ℕ, ◌+◌, ◌*◌, ◌/◌, ◌<◌, ◌≤◌, ◌⊎◌, ◌++◌, length, IfOk};
+ghost use Rattle.std.specs.Prelude.{IfErr, OnOk, OnErr};
 ghost use Rattle.std.specs.Borrow.{sem};
 ghost use Rattle.matrix_u32.specs.Matrix.{
   WordMatrix,
@@ -71,8 +72,8 @@ impl Model for Matrix {
 impl Matrix {
     /// A matrix of zeros.
     ///
-    /// `TooLarge` exactly when rows times columns is above [`MAX_WORDS`], judged before any memory is
-    /// asked for; else the matrix, or `Memory`.
+    /// `TooLarge` exactly when rows times columns is above [`MAX_WORDS`], judged before any memory
+    /// is asked for; else the matrix, or `Memory`.
     pub fn zeros(alloc: Global, rows: usize, cols: usize) -> Result<Matrix, MatrixError>
         ensures zeros { IfOk result (λ m. (m ≡ zero_matrix rows cols) ×
             (rows * cols ≤ most_words)) }
@@ -89,8 +90,9 @@ impl Matrix {
 
     /// A matrix of these words, given row by row. It takes no memory.
     ///
-    /// `TooLarge` exactly when rows times columns is above [`MAX_WORDS`], whatever the count of words;
-    /// `WrongCount` exactly when it isn't and the words are not rows times columns; never `Memory`.
+    /// `TooLarge` exactly when rows times columns is above [`MAX_WORDS`], whatever the count of
+    /// words; `WrongCount` exactly when it isn't and the words are not rows times columns; never
+    /// `Memory`.
     pub fn from_words(rows: usize, cols: usize, words: Vec<u32>) -> Result<Matrix, MatrixError>
         ensures words { IfOk result (λ m.
             (m ≡ record { rows = rows; cols = cols; words = words.items }) × IsWhole m ×
@@ -159,13 +161,14 @@ impl Matrix {
         &self.words[i * self.cols..i * self.cols + self.cols]
     }
 
-    /// Appends rows of these words, given row by row. The matrix's own memory grows for them, once, and
-    /// only where it has no room.
+    /// Appends rows of these words, given row by row. The matrix's own memory grows for them, once,
+    /// and only where it has no room.
     ///
-    /// `TooLarge` exactly when the words held and those given are together more than [`MAX_WORDS`], which is
-    /// judged first; else `WrongCount` exactly when the words given are not a whole number of rows: where
-    /// the matrix has no columns, no words add no row, and any others are refused; else `Memory` where the
-    /// growth is refused. At a refusal the matrix stays as it was. Rows that were there never change.
+    /// `TooLarge` exactly when the words held and those given are together more than [`MAX_WORDS`],
+    /// which is judged first; else `WrongCount` exactly when the words given are not a whole number
+    /// of rows: where the matrix has no columns, no words add no row, and any others are refused;
+    /// else `Memory` where the growth is refused. At a refusal the matrix stays as it was. Rows
+    /// that were there never change.
     pub fn push_rows(&mut self, words: Vec<u32>) -> Result<(), MatrixError>
         ensures pushed { OnOk result (self.new ≡ with_rows self.old words.items) }
         ensures kept { OnOk result (first_rows self.new self.old.rows ≡ self.old) }
@@ -205,8 +208,8 @@ impl Matrix {
 impl Matrix {
     ghost use Rattle.matrix_u32.specs.Lending.{LendsRow};
 
-    /// Row i, to be written in place: once the borrow is over, the matrix has the words that the row was
-    /// left with, and keeps all others.
+    /// Row i, to be written in place: once the borrow is over, the matrix has the words that the
+    /// row was left with, and keeps all others.
     pub fn row_mut(&mut self, i: usize) -> &mut [u32]
         requires { i < self.old.rows }
         ensures* writes_back { sem 𝓛 (LendsRow self.entry i result) }
@@ -218,8 +221,8 @@ impl Matrix {
         self.words.slice_mut(at..end)
     }
 
-    /// Rows i and i + 1, one behind the other, to be written in place at once: once the borrow is over, the matrix
-    /// has the words that they were left with, and keeps all others.
+    /// Rows i and i + 1, one behind the other, to be written in place at once: once the borrow is
+    /// over, the matrix has the words that they were left with, and keeps all others.
     pub fn two_rows_mut(&mut self, i: usize) -> &mut [u32]
         requires { i + 1 < self.old.rows }
         ensures* writes_back { sem 𝓛 (LendsRow self.entry i result) }

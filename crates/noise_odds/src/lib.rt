@@ -1,14 +1,19 @@
 //! How rarely noise has a digit misread.
 //!
-//! Odds are given in bits: b bits are odds of 2^-b at most. The numbers are those of the definitions in `specs/Odds`; that no odds are
-//! greater is Chernoff's bound, of which nothing is proved here (docs/DECISIONS.md, 'Odds').
+//! Odds are given in bits: b bits are odds of 2^-b at most. The numbers are those of the
+//! definitions in `specs/Odds`; that no odds are greater is Chernoff's bound, of which nothing is
+//! proved here (docs/DECISIONS.md, 'Odds').
+//!
+//! Its tests are in `tests_scheme::sources` and tests/odds.
 #![tactic(auto)]
 
 ghost use Rattle.std.specs.Prelude.{◌≡◌, ◌≤◌, ◌<◌, ◌^◌};
-ghost use Rattle.noise_odds.specs.Odds.{double_odds, even_bits, even_from, greatest, less_excess, margin_squared, mean_from, simple_odds, spread, worst_bits, worst_from};
+ghost use Rattle.noise_odds.specs.Odds.{double_odds, even_bits, even_from, greatest, less_excess};
+ghost use Rattle.noise_odds.specs.Odds.{margin_squared, mean_from, simple_odds, spread, worst_bits};
+ghost use Rattle.noise_odds.specs.Odds.{worst_from};
 
-// Bits are rounded down, so that odds are never said to be better than they are by the definitions. The tests are in
-// `scheme_tests::sources`.
+// Bits are rounded down, so that odds are never said to be better than they are by the definitions.
+// The tests are in `tests_scheme::sources`.
 
 /// Bits of the odds of one thing.
 #[derive(Clone, Copy, Debug, PartialEq, Eq)]
@@ -19,7 +24,8 @@ pub struct Odds {
     pub worst: u64,
 }
 
-/// Bits of the odds that a digit of a SimplePIR retrieval is misread, in a store with digits of `width` bits in so many columns.
+/// Bits of the odds that a digit of a SimplePIR retrieval is misread, in a store with digits of
+/// `width` bits in so many columns.
 pub fn of_simple(width: u32, columns: usize) -> Odds
     requires width { (6 ≤ width) × (width ≤ 10) }
     requires columns { (0 < columns) × (columns ≤ 2 ^ 15) }
@@ -33,7 +39,8 @@ pub fn of_simple(width: u32, columns: usize) -> Odds
     }
 }
 
-/// Bits of the odds that a digit of a DoublePIR retrieval is misread, in a store with digits of `width` bits in so many rows and columns.
+/// Bits of the odds that a digit of a DoublePIR retrieval is misread, in a store with digits of
+/// `width` bits in so many rows and columns.
 pub fn of_double(width: u32, columns: usize, rows: usize) -> Odds
     requires width { (6 ≤ width) × (width ≤ 10) }
     requires columns { (0 < columns) × (columns ≤ 2 ^ 15) }
@@ -56,7 +63,8 @@ fn of_layers(columns: u64, rows: u64) -> u64
     columns.saturating_sub(2).min(rows.saturating_sub(15))
 }
 
-// Bits of the odds that a sum over so many digits, each times some noise, reaches half of delta on one side.
+// Bits of the odds that a sum over so many digits, each times some noise, reaches half of delta on
+// one side.
 fn of_sum(width: u32, terms: usize) -> Odds
     requires width { (6 ≤ width) × (width ≤ 10) }
     requires terms { (0 < terms) × (terms ≤ 2 ^ 15) }

@@ -9,10 +9,11 @@ is_ascending [] = true
 is_ascending (x ∷ []) = true
 is_ascending (x ∷ (y ∷ rest)) = nat_lt x y && is_ascending (y ∷ rest)
 
--- how many numbers below 2 ^ 15 give a magnitude of 0, of at most 1, .., of at most 27: the cumulative distribution
--- of the magnitude of a Gaussian of standard deviation 6.4 over the whole numbers, in steps of 2 ^ -15. Magnitude k > 0
--- has the share 2 exp (- k ^ 2 / (2 * 6.4 ^ 2)), magnitude 0 half of that; the shares are rounded to steps, those with
--- the largest remainders up, so that they make 2 ^ 15 together.
+-- how many numbers below 2 ^ 15 give a magnitude of 0, of at most 1, .., of at most 27: the
+-- cumulative distribution of the magnitude of a Gaussian of standard deviation 6.4 over the whole
+-- numbers, in steps of 2 ^ -15. Magnitude k > 0 has the share 2 exp (- k ^ 2 / (2 * 6.4 ^ 2)),
+-- magnitude 0 half of that; the shares are rounded to steps, those with the largest remainders up,
+-- so that they make 2 ^ 15 together.
 abbrev pub noise_limits : List ℕ
 noise_limits =
     2043 ∷ 6079 ∷ 9970 ∷ 13630 ∷ 16990 ∷ 20001 ∷ 22633 ∷ 24879 ∷ 26749 ∷ 28269 ∷ 29474 ∷ 30407 ∷ 31111 ∷ 31630

@@ -1,6 +1,6 @@
 //! The noise that stands for a word, and the margin that sums of noise have to keep.
 //!
-//! Its tests are in tests/long/noise_table and in `scheme_tests::sources`.
+//! Its tests are in tests/long/noise_table and in `tests_scheme::sources`.
 #![tactic(auto)]
 
 ghost use Rattle.std.specs.Prelude.{◌≡◌, ◌≤◌, ◌<◌, ◌^◌, ◌↔◌, pos, length, unsigned_abs, IsTrue};
@@ -12,22 +12,23 @@ ghost use Rattle.noise_table.specs.Laws.{NoiseIsBounded, CertainIsQuiet};
 
 use seed_expand::WordSource;
 
-// The table and its largest magnitude are the code's own: the definitions have theirs (`specs/Noise`), and the contract of
-// `noise_of` holds for these words only if both agree.
+// The table and its largest magnitude are the code's own: the definitions have theirs
+// (`specs/Noise`), and the contract of `noise_of` holds for these words only if both agree.
 
 /// The largest magnitude of noise.
 pub const NOISE_MAX: i32 = 27;
 
-/// The noise table: the magnitude of a number below 2^15 is how many of these are at most that number.
-/// The numbers are those of a Gaussian of standard deviation 6.4 over the whole numbers; nothing is proved of that.
+/// The noise table: the magnitude of a number below 2^15 is how many of these are at most that
+/// number. The numbers are those of a Gaussian of standard deviation 6.4 over the whole numbers;
+/// nothing is proved of that.
 pub const LIMITS: [u32; 28] = [
     2043, 6079, 9970, 13630, 16990, 20001, 22633, 24879, 26749, 28269, 29474, 30407, 31111, 31630,
     32003, 32265, 32445, 32565, 32643, 32693, 32724, 32743, 32754, 32760, 32764, 32766, 32767,
     32768,
 ];
 
-/// The noise of a word: the low 15 bits give the magnitude, at most `NOISE_MAX`, and bit 15 the sign,
-/// 1 for a negative number. Bits 16 to 31 are ignored.
+/// The noise of a word: the low 15 bits give the magnitude, at most `NOISE_MAX`, and bit 15 the
+/// sign, 1 for a negative number. Bits 16 to 31 are ignored.
 #[tactic(auto, unfolding(crate::specs::Noise::noise))]
 pub fn noise_of(word: u32) -> i32
     ensures value { result ≡ noise word }
@@ -94,7 +95,8 @@ pub fn noise_is_bounded()
     ensures { NoiseIsBounded }
 {}
 
-/// Where a number of terms is certain, every row of that many digits is quiet, whatever the noise is.
+/// Where a number of terms is certain, every row of that many digits is quiet, whatever the noise
+/// is.
 pub fn certain_is_quiet()
     ensures { CertainIsQuiet }
 {}

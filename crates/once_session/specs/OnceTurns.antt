@@ -22,13 +22,15 @@ abbrev pub WritesWorkReplies : {C : Type 0} → (C → Call → C → Type 0) �
 WritesWorkReplies does (Ok done) a bytes b = Sends does a bytes b
 WritesWorkReplies does (Err e) a bytes b = SendsBefore does e a bytes b
 
--- memory was refused for one of some frames: the replies to those before it went out, and no more, and they left the work open
+-- memory was refused for one of some frames: the replies to those before it went out, and no more,
+-- and they left the work open
 abbrev pub LacksMemoryForFrame : {C : Type 0} → (C → Call → C → Type 0) → List Frame → Stage → C → Stage → C → Type 0
 LacksMemoryForFrame does frames old a new b =
     (count : ℕ) × (count < length frames) × Sends does a (encodings (replies_to old (take count frames))) b
     × (new ≡ stage_after old (take count frames)) × (goes_on new ≡ true)
 
--- memory was refused for one of the frames that were read, or for the reading after them, of which no fault was found
+-- memory was refused for one of the frames that were read, or for the reading after them, of which
+-- no fault was found
 abbrev pub LacksMemory : {C : Type 0} → (C → Call → C → Type 0) → Result (Unit {0}) ReadFault → List Frame → Stage → C → Stage → C → Type 0
 LacksMemory does read frames old a new b =
     LacksMemoryForFrame does frames old a new b ⊎ (Sends does a (encodings (replies_to old frames)) b × IsUnjudged read)
@@ -91,7 +93,8 @@ EndsWorkTurns does turns count old a (Err fault.Write) b = (count < turns) × Br
 EndsWorkTurns does turns count old a (Err fault.Memory) b = (count < turns) × BreaksOffWork does old a fault.Memory b
 EndsWorkTurns does turns count old a (Err fault.TurnsUsedUp) b = (count ≡ turns) × (b ≡ a)
 
--- Turn after turn, each with a read of its own: those that left the work open, and the last. There is no call after it.
+-- Turn after turn, each with a read of its own: those that left the work open, and the last. There
+-- is no call after it.
 pub record ServesWorkTurns {C : Type 0} (does : C → Call → C → Type 0) (turns : ℕ) (a : C) (result : Result (Unit {0}) OnceFault) (b : C) : Type 0 where
   pub before : List CallTurn
   pub work : Work

@@ -25,7 +25,8 @@ abbrev pub rest_reply : List ℕ → List ℕ
 rest_reply [] = []
 rest_reply (b ∷ bs) = encoding (Refused 1)
 
--- the bytes that a stream is answered: the replies to its frames in order, and to the rest where no frame ended it before
+-- the bytes that a stream is answered: the replies to its frames in order, and to the rest where no
+-- frame ended it before
 abbrev pub output_of : List Frame → List ℕ → List ℕ
 output_of frames rest = encodings (replies_to Fresh frames) ++ cond (goes_on (stage_after Fresh frames)) (rest_reply rest) []
 
@@ -38,7 +39,8 @@ is_well Fresh (b ∷ bs) = false
 is_well (Loaded t) [] = true
 is_well (Loaded t) (b ∷ bs) = false
 
--- Nothing more comes of what was read: where no frame ended it, no frame begins the rest, and a rest that more bytes could make a frame is all that there is
+-- Nothing more comes of what was read: where no frame ended it, no frame begins the rest, and a
+-- rest that more bytes could make a frame is all that there is
 pub record IsLast (st : Stage) (rest : List ℕ) (left : Option (List ℕ)) : Type 0 where
   pub no_frame : goes_on st ≡ true → HasFrame false rest → ⊥
   pub no_more : goes_on st ≡ true → IsPartial false rest → IsAtEnd left
@@ -64,15 +66,16 @@ pub record IsOnceReply (read out : List ℕ) : Type 0 where
 abbrev pub IsPrefixOf : List ℕ → List ℕ → Type 0
 IsPrefixOf prefix all = (rest : List ℕ) × (all ≡ prefix ++ rest)
 
--- a prefix of what is owed for what was read: of the replies to its frames, or of all where nothing more comes
+-- a prefix of what is owed for what was read: of the replies to its frames, or of all where nothing
+-- more comes
 pub record IsStreamCut (read out : List ℕ) (left : Option (List ℕ)) : Type 0 where
   pub frames : List Frame
   pub rest : List ℕ
   pub begins : Begins false read frames rest
   pub prefix : IsPrefixOf out (encodings (replies_to Fresh frames)) ⊎ (IsLast (stage_after Fresh frames) rest left × IsPrefixOf out (output_of frames rest))
 
--- Memory was refused to work that was open: the replies to whole frames went out, all of each, and no fault that the
--- length or the kind makes stands in what follows these frames.
+-- Memory was refused to work that was open: the replies to whole frames went out, all of each, and
+-- no fault that the length or the kind makes stands in what follows these frames.
 pub record LacksMemoryAfter (old : Stage) (stream out : List ℕ) : Type 0 where
   pub frames : List Frame
   pub rest : List ℕ
@@ -142,7 +145,8 @@ pub record Breaks (old : Stage) (stream : List ℕ) (out : List ℕ) : Type 0 wh
       ⊎ ((goes_on (stage_after old frames) ≡ true → HasFrame false rest → ⊥) × (goes_on (stage_after old frames) ≡ true → IsPartial false rest → ⊥)
       × IsPrefixOf out (encodings (replies_to old frames) ++ cond (goes_on (stage_after old frames)) (rest_reply rest) []))
 
--- what a piece does at an open stage, where `stream` is the unfinished frame before it and the piece
+-- what a piece does at an open stage, where `stream` is the unfinished frame before it and the
+-- piece
 abbrev pub Turns : Result (Unit {0}) OnceFault → Stage → List ℕ → Stage → Option (List ℕ) → List ℕ → Type 0
 Turns (Ok done) old stream new codec out = MatchBool (goes_on new) (WaitsForMore old stream new codec out) (EndsWork old stream new out)
 Turns (Err Memory) old stream new codec out = LacksMemoryAfter old stream out

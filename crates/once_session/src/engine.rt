@@ -1,11 +1,15 @@
 //! The stream: pieces in, replies out.
 
-ghost use Rattle.std.specs.Prelude.{◌≡◌, ◌≤◌, ◌<◌, ◌++◌, ◌⊎◌, ℕ, List, [], ◌∷◌, length, take, true, false, IsTrue, ◌↔◌, Option, Some, None, Result, Ok, Err, OnOk, OnErr, IfOk, IfErr, IsSome, unwrap_or};
+ghost use Rattle.std.specs.Prelude.{◌≡◌, ◌≤◌, ◌<◌, ◌++◌, ◌⊎◌, ℕ, List, [], ◌∷◌, length, take, true};
+ghost use Rattle.std.specs.Prelude.{false, IsTrue, ◌↔◌, Option, Some, None, Result, Ok, Err, OnOk};
+ghost use Rattle.std.specs.Prelude.{OnErr, IfOk, IfErr, IsSome, unwrap_or};
 ghost use Rattle.connection_io.specs.Calls.{Sends};
 ghost use Rattle.frame_codec.specs.Frames.{encoding, payload_size, payload_limit};
-ghost use Rattle.once_session.specs.Courses.{next, HasTable, FitsWorkReply, replies_to, stage_after, work_reply_bytes, reply, encodings};
+ghost use Rattle.once_session.specs.Courses.{next, HasTable, FitsWorkReply, replies_to};
+ghost use Rattle.once_session.specs.Courses.{stage_after, work_reply_bytes, reply, encodings};
 ghost use Rattle.once_session.specs.Outputs.{IsServeFault, IsPrefixOf, IsJudged, goes_on, Turns};
-ghost use Rattle.once_session.specs.OnceTurns.{SendsBefore, WritesWorkReplies, LacksMemory, LacksMemoryForFrame};
+ghost use Rattle.once_session.specs.OnceTurns.{SendsBefore, WritesWorkReplies, LacksMemory};
+ghost use Rattle.once_session.specs.OnceTurns.{LacksMemoryForFrame};
 ghost use Rattle.frame_codec.specs.Streams.{Feeds};
 ghost use Rattle.frame_codec.specs.declared.frame.Frame.{Frame};
 ghost use Rattle.frame_codec.specs.declared.reader.ReadFault.{ReadFault};
@@ -89,7 +93,8 @@ fn answer_frame<K: Kernel, C: Connection>(
     requires { HasTable stage.old }
     ensures stage { OnOk result ((stage.new ≡ next stage.old frame.now) × HasTable stage.new) }
     ensures all { OnOk result
-        (Sends C.does connection.old (work_reply_bytes (reply stage.old frame.now)) connection.new) }
+        (Sends C.does connection.old (work_reply_bytes (reply stage.old frame.now))
+        connection.new) }
     ensures prefix { IfErr result (λ e. (n : ℕ)
         × SendsBefore C.does e connection.old
         (take n (work_reply_bytes (reply stage.old frame.now))) connection.new) }
@@ -116,7 +121,8 @@ fn send_reply<C: Connection>(
     ensures all { OnOk result
         (Sends C.does connection.old (work_reply_bytes reply.now) connection.new) }
     ensures prefix { IfErr result (λ e. (n : ℕ)
-        × SendsBefore C.does e connection.old (take n (work_reply_bytes reply.now)) connection.new) }
+        × SendsBefore C.does e connection.old (take n (work_reply_bytes reply.now))
+        connection.new) }
     ensures fault { IfErr result IsServeFault }
     ensures memory { IfErr result (λ e. e ≡ OnceFault.Memory →
         (connection.new ≡ connection.old) × IsSome reply.now) }
@@ -171,8 +177,8 @@ pub(crate) fn goes_on(stage: &Stage) -> bool
     matches!(stage, Stage::Fresh | Stage::Loaded(_))
 }
 
-/// The bytes of a refusal with code 1. They are made before anything is read, so that a frame that was judged bad
-/// can be refused without further memory.
+/// The bytes of a refusal with code 1. They are made before anything is read, so that a frame that
+/// was judged bad can be refused without further memory.
 pub(crate) fn refusal_bytes(alloc: Global) -> Result<Vec<u8>, AllocError>
     ensures { IfOk result (λ bytes. bytes.items ≡ encoding (Refused 1)) }
 {
@@ -194,8 +200,8 @@ pub(crate) fn refuse<C: Connection>(refusal: &[u8], connection: &mut C) -> Resul
     }
 }
 
-// Ends the work where the stream can't be read on: what stands there is refused, or memory was. A frame that was
-// judged bad is never answered as memory.
+// Ends the work where the stream can't be read on: what stands there is refused, or memory was. A
+// frame that was judged bad is never answered as memory.
 fn stop<C: Connection>(
     refusal: &[u8],
     fault: ReadFault,
@@ -224,8 +230,8 @@ fn stop<C: Connection>(
     }
 }
 
-// Serves the frames that a piece brought, and then what stopped the reading. Memory is answered only where it was refused:
-// for a frame, or to the reading.
+// Serves the frames that a piece brought, and then what stopped the reading. Memory is answered
+// only where it was refused: for a frame, or to the reading.
 fn serve_read<K: Kernel, C: Connection>(
     alloc: Global,
     kernel: K,

@@ -1,7 +1,7 @@
-//! One database and its queries over one stream: the frames of a Load, of Queries and of a Bye are read, and
-//! the queries answered by SimplePIR, without versions and sessions.
+//! One database and its queries over one stream: the frames of a Load, of Queries and of a Bye are
+//! read, and the queries answered by SimplePIR, without versions and sessions.
 //!
-//! Its tests are in `frame_tests::once`, `tests/long/frame_tests` and `tests/once`.
+//! Its tests are in `tests_frame::once`, `tests/long/tests_frame` and `tests/once`.
 #![tactic(auto)]
 
 mod engine;

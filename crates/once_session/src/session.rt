@@ -1,6 +1,7 @@
 //! The whole stream, read in pieces.
 
-ghost use Rattle.std.specs.Prelude.{◌≡◌, ◌≤◌, ◌*◌, ℕ, List, [], length, Some, OnOk, OnErr, IfErr, true, false};
+ghost use Rattle.std.specs.Prelude.{◌≡◌, ◌≤◌, ◌*◌, ℕ, List, [], length, Some, OnOk, OnErr, IfErr};
+ghost use Rattle.std.specs.Prelude.{true, false};
 ghost use Rattle.std.specs.Io.KnownBytes.{Appends, Consumes};
 ghost use Rattle.frame_codec.specs.declared.frame.Frame.TheVariants.{Refused};
 ghost use Rattle.frame_codec.specs.Frames.{encoding};
@@ -48,14 +49,14 @@ fn ended(stage: &Stage) -> Result<(), OnceFault>
     }
 }
 
-/// Serves one database over a connection, turn by turn: each is one read of at most 65,536 bytes, all that it
-/// brings served, and the replies written before any other call. After the turn whose piece ended the work, or
-/// that found the end of the stream, and after a fault, no call is made.
+/// Serves one database over a connection, turn by turn: each is one read of at most 65,536 bytes,
+/// all that it brings served, and the replies written before any other call. After the turn whose
+/// piece ended the work, or that found the end of the stream, and after a fault, no call is made.
 ///
 /// # Errors
 ///
-/// Those of [`once`]. `Read` exactly when a read failed, `Write` exactly when a write did, and `TurnsUsedUp`
-/// after `turns` reads, of which none ended the work.
+/// Those of [`once`]. `Read` exactly when a read failed, `Write` exactly when a write did, and
+/// `TurnsUsedUp` after `turns` reads, of which none ended the work.
 pub fn once_over<K: Kernel, C: Connection>(
     alloc: Global,
     kernel: K,
@@ -118,22 +119,23 @@ pub fn once_with<K: Kernel, R: Read, W: Write>(
     }
 }
 
-/// Serves one database over one stream: reads the frames of a Load, of Queries and of a Bye in at most
-/// `turns` reads of at most 65,536 bytes each, and writes the reply to each as soon as its bytes have come.
+/// Serves one database over one stream: reads the frames of a Load, of Queries and of a Bye in at
+/// most `turns` reads of at most 65,536 bytes each, and writes the reply to each as soon as its
+/// bytes have come.
 ///
-/// A Load has no reply. A Query is answered from the loaded database, which has version 1: a scheme other
-/// than SimplePIR is refused with code 13, another version is answered Stale, another count of words than
-/// the digit matrix has columns is refused with code 11. After a Bye nothing more is read. A frame out of
-/// place, a Load whose layout or record bytes don't fit, a frame that can't be read and one that is cut by
-/// the stream's end are refused with code 1, and end the work.
+/// A Load has no reply. A Query is answered from the loaded database, which has version 1: a scheme
+/// other than SimplePIR is refused with code 13, another version is answered Stale, another count
+/// of words than the digit matrix has columns is refused with code 11. After a Bye nothing more is
+/// read. A frame out of place, a Load whose layout or record bytes don't fit, a frame that can't be
+/// read and one that is cut by the stream's end are refused with code 1, and end the work.
 ///
 /// # Errors
 ///
-/// `BadInput` where the stream was refused with code 1, `Read` and `Write` where a reader or a writer
-/// fails, `Memory` where it is refused, `TurnsUsedUp` where the stream hadn't ended after all turns. At
-/// each what was written is the replies to what was read, or at `Write` a prefix of them. At `Memory` it is
-/// the replies to the first frames read, which left the work open, and in what follows these frames stands no
-/// length that is too large and no unknown kind.
+/// `BadInput` where the stream was refused with code 1, `Read` and `Write` where a reader or a
+/// writer fails, `Memory` where it is refused, `TurnsUsedUp` where the stream hadn't ended after
+/// all turns. At each what was written is the replies to what was read, or at `Write` a prefix of
+/// them. At `Memory` it is the replies to the first frames read, which left the work open, and in
+/// what follows these frames stands no length that is too large and no unknown kind.
 pub fn once<R: Read, W: Write>(
     alloc: Global,
     reader: &mut R,

@@ -3,9 +3,9 @@ use Rattle.std.specs.Prelude.{◌≡◌, ℕ, List, codes}
 use Rattle.client_core.specs.declared.state.CallFault.{CallFault}
 use Rattle.client_core.specs.declared.state.CallFault.TheVariants as call
 use Rattle.client_core.specs.Names.{call_fault_name}
-use Rattle.session_engines.specs.declared.conversing.ConverseFault.{ConverseFault}
-use Rattle.session_engines.specs.declared.conversing.ConverseFault.TheVariants as conversation
-use Rattle.session_engines.specs.Names.{converse_fault_name}
+use Rattle.blocking_io.specs.declared.conversing.ConverseFault.{ConverseFault}
+use Rattle.blocking_io.specs.declared.conversing.ConverseFault.TheVariants as conversation
+use Rattle.blocking_io.specs.Names.{converse_fault_name}
 use Rattle.client_commands.specs.declared.fault.CommandError.{CommandError}
 use Rattle.client_commands.specs.declared.fault.CommandError.TheVariants.{Refused, Stale, Unreadable, ShortSecrets, Call, Conversation}
 use Rattle.client_state.specs.declared.fault.FolderFault.{FolderFault}

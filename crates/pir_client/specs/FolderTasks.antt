@@ -28,7 +28,8 @@ ReadsFolderGet found (Get state server least no_older progress choice indices) =
 ReadsFolderGet found (State state) = ⊥
 ReadsFolderGet found (Forget state) = ⊥
 
--- a folder that is printed, or whose hint is dropped, as the option of `state` and `forget` names it
+-- a folder that is printed, or whose hint is dropped, as the option of `state` and `forget` names
+-- it
 abbrev pub ReadsFolder : Found → FolderTask → Type 0
 ReadsFolder found (Get state server least no_older progress choice indices) = ⊥
 ReadsFolder found (State state) = first_value found (codes "state") ≡ Some state.now

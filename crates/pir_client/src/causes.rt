@@ -9,7 +9,8 @@ pub fn cause_of(failure: Failure) -> Option<&'static str> {
         Failure::Stale(_) => Some("this version was published meanwhile; ask again"),
         Failure::Unreadable { .. } => {
             Some(
-                "the record's digits fit no record: the noise was too large, or the answer is wrong",
+                "the record's digits fit no record: the noise was too large, or the answer is \
+                    wrong",
             )
         }
         Failure::Fault(name) => cause_of_fault(name),

@@ -22,7 +22,8 @@ pub enum SchemeChoice {
 }
 
 impl SchemeChoice {
-    /// The scheme for a store, of which a folder keeps hints. How many records are asked for has a part in this, and not which.
+    /// The scheme for a store, of which a folder keeps hints. How many records are asked for has a
+    /// part in this, and not which.
     ///
     /// # Errors
     ///
@@ -36,7 +37,8 @@ impl SchemeChoice {
             return Ok(Scheme::Simple);
         };
         let held = HintsHeld {
-            // A hint of few publications before is moved by a delta, which is short beside the hint.
+            // A hint of few publications before is moved by a delta, which is short beside the
+            // hint.
             simple: is_kept(folder, Scheme::Simple, now, DELTAS)?,
             double: is_kept(folder, Scheme::Double, now, 0)?,
         };
@@ -44,7 +46,8 @@ impl SchemeChoice {
     }
 }
 
-// Whether a hint of a scheme is kept that is of the version known, or of at most so many publications before.
+// Whether a hint of a scheme is kept that is of the version known, or of at most so many
+// publications before.
 fn is_kept(
     folder: &Folder<'_>,
     scheme: Scheme,

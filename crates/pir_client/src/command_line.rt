@@ -2,7 +2,9 @@
 
 ghost use Rattle.std.specs.Prelude.{◌≡◌, Some, IfOk, IfSome, codes};
 ghost use Rattle.clap.specs.Matches.{found_of, first_value};
-ghost use Rattle.pir_client.specs.Tasks.{TaskFits, IsDimension, IsTimeout, IsNumberIfGiven, IsServerGiven, IsHostGiven, ReadsGet, ReadsPut, ReadsAppend, ReadsPublish, scheme_text};
+ghost use Rattle.pir_client.specs.Tasks.{TaskFits, IsDimension, IsTimeout, IsNumberIfGiven};
+ghost use Rattle.pir_client.specs.Tasks.{IsServerGiven, IsHostGiven, ReadsGet, ReadsPut};
+ghost use Rattle.pir_client.specs.Tasks.{ReadsAppend, ReadsPublish, scheme_text};
 
 use crate::folder_tasks::{FolderTask, folder_get_task, forget_task, state_task};
 use crate::server::Address;
@@ -106,7 +108,8 @@ const WIDE: Argument = Argument::Flag {
 const TIMEOUT: Argument = Argument::Optional {
     name: "timeout",
     value: "SECONDS",
-    help: "How many seconds connecting and each whole reply may take, 1 to 86400; any time if not given",
+    help: "How many seconds connecting and each whole reply may take, 1 to 86400; any time if not \
+        given",
 };
 
 // The option for the publisher's server.
@@ -127,7 +130,32 @@ const KEY: Argument = Argument::Required {
 const GET: CommandText = CommandText {
     name: "get",
     about: "Retrieves a record without telling the server which",
-    example: "Prints 'retrieved INDEX VERSION HEX', HEX being the record's bytes, or - where it has none.\n\nWith --state DIR a wide store is known by its greeting; without it --wide says that the store is one. With --state DIR each run draws a seed of its own from the system's random source, and keeps none. The folder keeps public hints alone, one for\neach scheme and store, so that a second get need not fetch one; it may be copied, restored or removed at any time. With --scheme auto the hints kept and the number of records decide the scheme, and not which records\nthey are. A server of a lower version\nthan was seen before is warned of beside the result. With --no-older nothing is asked of it: up to three more connections are tried, since\na balancer may lead to another server, and then it is 'fault: Older'.\nA hint's parts that have come stay there, so that a get whose connection was cut goes on with the next one.\n\nWith --seed and --number it is you who must never use a number twice with one seed, not even after a get that failed: two such retrievals can\ntell the server what they ask.\n\nSecrets of fewer than 1024 words hide INDEX less: the server chooses their number. --least-dimension 1024 ends a get\nwith 'fault: BadWelcome' if they are fewer, before INDEX is asked for; without it a warning is printed, and with --state fewer than 1024 are refused.\n\nExample: pir_client get --state DIR --port 7000 --scheme simple 1\nExample: pir_client get --port 7000 --seed 1111111111111111111111111111111111111111111111111111111111111111 --number 0 --scheme simple 1\n\nWith --verbose a fault has a second line, 'cause: TEXT', that says what failed and where.",
+    example: "Prints 'retrieved INDEX VERSION HEX', HEX being the record's bytes, or - where it \
+        has none.\n\n\
+        With --state DIR a wide store is known by its greeting; without it --wide says that the \
+        store is one. With --state DIR each run draws a seed of its own from the system's random \
+        source, and keeps none. The folder keeps public hints alone, one for\n\
+        each scheme and store, so that a second get need not fetch one; it may be copied, restored \
+        or removed at any time. With --scheme auto the hints kept and the number of records decide \
+        the scheme, and not which records\n\
+        they are. A server of a lower version\n\
+        than was seen before is warned of beside the result. With --no-older nothing is asked of \
+        it: up to three more connections are tried, since\n\
+        a balancer may lead to another server, and then it is 'fault: Older'.\n\
+        A hint's parts that have come stay there, so that a get whose connection was cut goes on \
+        with the next one.\n\n\
+        With --seed and --number it is you who must never use a number twice with one seed, not \
+        even after a get that failed: two such retrievals can\n\
+        tell the server what they ask.\n\n\
+        Secrets of fewer than 1024 words hide INDEX less: the server chooses their number. \
+        --least-dimension 1024 ends a get\n\
+        with 'fault: BadWelcome' if they are fewer, before INDEX is asked for; without it a \
+        warning is printed, and with --state fewer than 1024 are refused.\n\n\
+        Example: pir_client get --state DIR --port 7000 --scheme simple 1\n\
+        Example: pir_client get --port 7000 --seed \
+        1111111111111111111111111111111111111111111111111111111111111111 --number 0 --scheme \
+        simple 1\n\n\
+        With --verbose a fault has a second line, 'cause: TEXT', that says what failed and where.",
     arguments: &[
         Argument::Required {
             name: "port",
@@ -138,28 +166,33 @@ const GET: CommandText = CommandText {
             other: "state",
             name: "seed",
             value: "HEX",
-            help: "For tests and for who keeps numbers: a secret of 32 bytes, which alone hides INDEX, as 64 hex digits or @FILE",
+            help: "For tests and for who keeps numbers: a secret of 32 bytes, which alone hides \
+                INDEX, as 64 hex digits or @FILE",
         },
         Argument::InPlaceOf {
             other: "state",
             name: "number",
             value: "N",
-            help: "The number of this retrieval, below 2^62: one that this seed has never been used with",
+            help: "The number of this retrieval, below 2^62: one that this seed has never been \
+                used with",
         },
         Argument::Optional {
             name: "state",
             value: "DIR",
-            help: "A folder in which the hint is kept for the next time; it is made if there is none, and has no secret",
+            help: "A folder in which the hint is kept for the next time; it is made if there is \
+                none, and has no secret",
         },
         Argument::FlagWithout {
             other: "seed",
             name: "no-older",
-            help: "With --state: refuses servers whose version is lower than one seen before, after four connections",
+            help: "With --state: refuses servers whose version is lower than one seen before, \
+                after four connections",
         },
         Argument::FlagWithout {
             other: "seed",
             name: "progress",
-            help: "With --state: says on standard error how many parts of a hint have come, and how long the others take",
+            help: "With --state: says on standard error how many parts of a hint have come, and \
+                how long the others take",
         },
         Argument::FlagWithout {
             other: "state",
@@ -174,7 +207,8 @@ const GET: CommandText = CommandText {
         Argument::Optional {
             name: "timeout",
             value: "SECONDS",
-            help: "How many seconds connecting and each whole reply may take, 1 to 86400; with --state 30 if not given, else any time",
+            help: "How many seconds connecting and each whole reply may take, 1 to 86400; with \
+                --state 30 if not given, else any time",
         },
         Argument::Verbose,
         Argument::Optional {
@@ -185,7 +219,8 @@ const GET: CommandText = CommandText {
         Argument::Required {
             name: "scheme",
             value: "NAME",
-            help: "simple or double; with --state also auto: the one that moves fewer bytes for the records named",
+            help: "simple or double; with --state also auto: the one that moves fewer bytes for \
+                the records named",
         },
         Argument::Words {
             name: "INDEX",
@@ -198,7 +233,10 @@ const GET: CommandText = CommandText {
 const STATE: CommandText = CommandText {
     name: "state",
     about: "Prints which hints a folder keeps",
-    example: "Prints for each hint 'hint SCHEME VERSION' and what the server had reported last: 'version V', 'records COUNT', 'dimension N'; or 'hint none'.\n\nExample: pir_client state --state DIR\n\nWith --verbose a fault has a second line, 'cause: TEXT', that says what failed and where.",
+    example: "Prints for each hint 'hint SCHEME VERSION' and what the server had reported last: \
+        'version V', 'records COUNT', 'dimension N'; or 'hint none'.\n\n\
+        Example: pir_client state --state DIR\n\n\
+        With --verbose a fault has a second line, 'cause: TEXT', that says what failed and where.",
     arguments: &[
         Argument::Verbose,
         Argument::Required {
@@ -213,7 +251,9 @@ const STATE: CommandText = CommandText {
 const FORGET: CommandText = CommandText {
     name: "forget",
     about: "Drops a folder's hints, so that the next retrieval fetches its hint anew",
-    example: "Prints 'forgotten'.\n\nExample: pir_client forget --state DIR\n\nWith --verbose a fault has a second line, 'cause: TEXT', that says what failed and where.",
+    example: "Prints 'forgotten'.\n\n\
+        Example: pir_client forget --state DIR\n\n\
+        With --verbose a fault has a second line, 'cause: TEXT', that says what failed and where.",
     arguments: &[
         Argument::Verbose,
         Argument::Required {
@@ -228,7 +268,10 @@ const FORGET: CommandText = CommandText {
 const PUT: CommandText = CommandText {
     name: "put",
     about: "Replaces a record in the publisher's draft, which no reader sees before publish",
-    example: "Prints 'done VERSION', VERSION being the current one.\n\nExample: pir_client put --port 7000 --key 0101010101010101010101010101010101010101010101010101010101010101 1 64\n\nWith --verbose a fault has a second line, 'cause: TEXT', that says what failed and where.",
+    example: "Prints 'done VERSION', VERSION being the current one.\n\n\
+        Example: pir_client put --port 7000 --key \
+        0101010101010101010101010101010101010101010101010101010101010101 1 64\n\n\
+        With --verbose a fault has a second line, 'cause: TEXT', that says what failed and where.",
     arguments: &[
         Argument::Verbose,
         WIDE,
@@ -250,7 +293,10 @@ const PUT: CommandText = CommandText {
 const APPEND: CommandText = CommandText {
     name: "append",
     about: "Appends a record to the publisher's draft, which no reader sees before publish",
-    example: "Prints 'done VERSION', VERSION being the current one.\n\nExample: pir_client append --port 7000 --key 0101010101010101010101010101010101010101010101010101010101010101 05\n\nWith --verbose a fault has a second line, 'cause: TEXT', that says what failed and where.",
+    example: "Prints 'done VERSION', VERSION being the current one.\n\n\
+        Example: pir_client append --port 7000 --key \
+        0101010101010101010101010101010101010101010101010101010101010101 05\n\n\
+        With --verbose a fault has a second line, 'cause: TEXT', that says what failed and where.",
     arguments: &[
         Argument::Verbose,
         WIDE,
@@ -268,7 +314,10 @@ const APPEND: CommandText = CommandText {
 const PUBLISH: CommandText = CommandText {
     name: "publish",
     about: "Makes the publisher's draft the next version",
-    example: "Prints 'published VERSION', VERSION being the new one.\n\nExample: pir_client publish --port 7000 --key 0101010101010101010101010101010101010101010101010101010101010101\n\nWith --verbose a fault has a second line, 'cause: TEXT', that says what failed and where.",
+    example: "Prints 'published VERSION', VERSION being the new one.\n\n\
+        Example: pir_client publish --port 7000 --key \
+        0101010101010101010101010101010101010101010101010101010101010101\n\n\
+        With --verbose a fault has a second line, 'cause: TEXT', that says what failed and where.",
     arguments: &[Argument::Verbose, WIDE, TIMEOUT, PORT, KEY],
 };
 
@@ -276,7 +325,8 @@ const PUBLISH: CommandText = CommandText {
 const REHEARSE: CommandText = CommandText {
     name: "rehearse",
     about: "Plays a script of a publisher, a server and its clients in this process (the default)",
-    example: "Reads the script from standard input and prints what comes of each line.\n\nExample: pir_client rehearse < script",
+    example: "Reads the script from standard input and prints what comes of each line.\n\n\
+        Example: pir_client rehearse < script",
     arguments: &[],
 };
 
@@ -296,7 +346,36 @@ fn whole_command<'a>(alloc: Global) -> Result<Command<'a>, AllocError> {
 const VERSION: &str = "0.2.0";
 
 const EXIT_STATUSES: &str =
-    "A value @FILE of --seed or --key is read from that file; one on the command line itself stands in the list of\nprocesses, for other users of this machine to see.\n\nExit status: 0 done, 1 refused by the server (or stale, or unreadable), 2 a bad command line, 3 a fault,\n4 out of memory. Whatever the status, a --number that was given to get is never to be used again with its seed.\n\nThe server's refusals are one line on standard error, 'refused CODE':\n  1 BadFrame   2 NotWelcome   3 BadProfile   4 BadKey   5 NotPublisher   6 BadIndex   7 BadLength\n  8 NothingToPublish   9 VersionsUsedUp   10 BadPart   11 BadQueryLength   12 Memory   13 BadScheme\n  14 Full\n\nA fault is one line on standard error, 'fault: NAME':\n  File           the file of a seed or key can't be read\n  State          the folder can't be made or used, or others may use it\n  Random         the system's random source gave no seed\n  Damaged        the kept hint was damaged, and is dropped: ask again\n  Older          --no-older, and the server's version is lower than one seen before\n  Connect        the server's port can't be connected to\n  Timeout        connecting or a whole reply took longer than --timeout allows\n  Read, Write    reading or writing failed\n  Ended          the server closed the connection\n  BadWelcome     the server's greeting is none that this client accepts\n  BadReply       a reply that doesn't fit what was asked\n  Failed         a reply came with more after it, and then a call was made\n  BadIndex       there is no such record\n  TurnsUsedUp    more reads than a call has\n  Memory         memory was refused (status 4)\n\nWith --verbose a second line 'cause: TEXT' says what failed and where.";
+    "A value @FILE of --seed or --key is read from that file; one on the command line itself \
+        stands in the list of\n\
+        processes, for other users of this machine to see.\n\n\
+        Exit status: 0 done, 1 refused by the server (or stale, or unreadable), 2 a bad command \
+        line, 3 a fault,\n\
+        4 out of memory. Whatever the status, a --number that was given to get is never to be used \
+        again with its seed.\n\n\
+        The server's refusals are one line on standard error, 'refused CODE':\
+        \n  1 BadFrame   2 NotWelcome   3 BadProfile   4 BadKey   5 NotPublisher   6 BadIndex   7 \
+        BadLength\
+        \n  8 NothingToPublish   9 VersionsUsedUp   10 BadPart   11 BadQueryLength   12 Memory   \
+        13 BadScheme\
+        \n  14 Full\n\n\
+        A fault is one line on standard error, 'fault: NAME':\
+        \n  File           the file of a seed or key can't be read\
+        \n  State          the folder can't be made or used, or others may use it\
+        \n  Random         the system's random source gave no seed\
+        \n  Damaged        the kept hint was damaged, and is dropped: ask again\
+        \n  Older          --no-older, and the server's version is lower than one seen before\
+        \n  Connect        the server's port can't be connected to\
+        \n  Timeout        connecting or a whole reply took longer than --timeout allows\
+        \n  Read, Write    reading or writing failed\
+        \n  Ended          the server closed the connection\
+        \n  BadWelcome     the server's greeting is none that this client accepts\
+        \n  BadReply       a reply that doesn't fit what was asked\
+        \n  Failed         a reply came with more after it, and then a call was made\
+        \n  BadIndex       there is no such record\
+        \n  TurnsUsedUp    more reads than a call has\
+        \n  Memory         memory was refused (status 4)\n\n\
+        With --verbose a second line 'cause: TEXT' says what failed and where.";
 
 // What the words of `get` ask for.
 fn get_task<'a>(found: &ArgMatches<'a>) -> Result<Task<'a>, BadLine<'a>>

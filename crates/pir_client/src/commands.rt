@@ -9,9 +9,9 @@ use crate::folders::{done_in_folder, print_record};
 use crate::server::{Address, Server};
 use client_commands::{append, get, publish, put};
 use command_words::{Failed, Failure, Secret, open_standard_descriptors, printed, program_words};
-use rehearsal::{RehearseFault, rehearse};
 use session_core::{ClientCore, Lanes, Scheme};
 use std::io;
+use world_script::{RehearseFault, rehearse};
 
 /// The program: reads its command line, does what it asks for, and answers the exit status.
 pub fn run(rt: &HostRuntime) -> u8 {
@@ -205,7 +205,8 @@ fn publish_draft(rt: &HostRuntime, address: &Address<'_>, key: [u8; 32]) -> Resu
     }
 }
 
-// A client that asks for no record, so that any seed serves, and that greets a wide store or an ordinary one.
+// A client that asks for no record, so that any seed serves, and that greets a wide store or an
+// ordinary one.
 fn publisher(rt: &HostRuntime, wide: bool) -> ClientCore<Lanes> {
     let mut client = ClientCore::new(rt.alloc(), Lanes, [0; 32], 0);
     client.speak(wide);

@@ -1,4 +1,5 @@
-//! A connection over which a hint moves by delta alone, or in a wide store by the records that changed.
+//! A connection over which a hint moves by delta alone, or in a wide store by the records that
+//! changed.
 
 use crate::server::Server;
 use std::cell::Cell;
@@ -11,8 +12,9 @@ const DELTA_ASK_LEN: usize = 13;
 /// The frame Refused, with the code for a part that there is not.
 const REFUSED: [u8; 6] = [1, 0, 0, 0, 0x8f, 10];
 
-/// What has gone over a connection over which the client asks for a delta. When there is none, the client's ask for the first part of a
-/// hint is refused on this side, and the server gets nothing of it: the parts are fetched one by one, into their file.
+/// What has gone over a connection over which the client asks for a delta. When there is none, the
+/// client's ask for the first part of a hint is refused on this side, and the server gets nothing
+/// of it: the parts are fetched one by one, into their file.
 #[derive(Drop)]
 pub struct DeltaOnly {
     sent: Cell<usize>,

@@ -1,6 +1,7 @@
 //! How a command that was not done is reported.
 
-ghost use Rattle.pir_client.specs.Failures.{IsReported, IsCallFault, IsConverseFault, IsRetrieveReported, IsFolderFault};
+ghost use Rattle.pir_client.specs.Failures.{IsReported, IsCallFault, IsConverseFault};
+ghost use Rattle.pir_client.specs.Failures.{IsRetrieveReported, IsFolderFault};
 
 use crate::sessions::RetrieveError;
 use client_commands::CommandError;

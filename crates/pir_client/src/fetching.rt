@@ -9,13 +9,15 @@ use pir_schemes::PART_WORDS;
 use session_core::{CallFault, ConverseFault, Scheme, ServerInfo};
 use std::io::{ErrorKind, Read, Write};
 
-/// How many bytes stand before the words of a part: the frame's length, its kind, the scheme, the version and the part.
+/// How many bytes stand before the words of a part: the frame's length, its kind, the scheme, the
+/// version and the part.
 const HEAD_LEN: usize = 18;
 
 /// How many of them are not counted by the frame's length.
 const PREFIX_LEN: usize = 5;
 
-/// The kinds of the replies that a part's ask may get beside the part: Stale and Refused, and how many bytes they have.
+/// The kinds of the replies that a part's ask may get beside the part: Stale and Refused, and how
+/// many bytes they have.
 const OTHERS: [(u8, u32); 2] = [(0x86, 12), (0x8f, 1)];
 
 // What came of an ask for a part.
@@ -26,8 +28,9 @@ enum Reply {
     Other,
 }
 
-/// Fetches the hint of the version known, and keeps it. None when that can't be done over the folder, or when the server has another
-/// version by now or refuses a part: then a sync says so, or fetches the hint without the folder.
+/// Fetches the hint of the version known, and keeps it. None when that can't be done over the
+/// folder, or when the server has another version by now or refuses a part: then a sync says so, or
+/// fetches the hint without the folder.
 pub fn fetch<'a>(
     rt: &HostRuntime,
     server: &Server,

@@ -1,4 +1,5 @@
-//! The commands of a client that keeps hints in a folder. A folder has no secret: each run draws a seed of its own.
+//! The commands of a client that keeps hints in a folder. A folder has no secret: each run draws a
+//! seed of its own.
 
 use crate::choosing::SchemeChoice;
 use crate::failures::{folder_failure, retrieve_failure};
@@ -10,11 +11,12 @@ use client_commands::Retrieved;
 use client_state::{Folder, FolderFault, OldFolder};
 use command_words::{Failed, Failure, printed};
 use hint_file::state_lines;
-use rehearsal::shown_bytes;
 use std::alloc::AllocError;
 use std::random::RandomSource;
+use world_script::shown_bytes;
 
-/// How many more connections are tried when the first leads to a server of an older version: a balancer may lead to another one.
+/// How many more connections are tried when the first leads to a server of an older version: a
+/// balancer may lead to another one.
 const MORE_CONNECTIONS: u32 = 3;
 
 /// Does what is asked of a folder, and prints what came of it.
@@ -60,7 +62,8 @@ fn fresh_seed(rt: &HostRuntime) -> Result<[u8; 32], Failed> {
     }
 }
 
-// Takes a folder of before over, if it is one. If its hint can't be kept, nothing is removed, and the next run tries again.
+// Takes a folder of before over, if it is one. If its hint can't be kept, nothing is removed, and
+// the next run tries again.
 fn taken_over(folder: &Folder<'_>) -> Result<Option<OldFolder>, AllocError> {
     match folder.take_old() {
         Ok(old) => Ok(old),
@@ -78,8 +81,8 @@ fn warn_of_old(rt: &HostRuntime, old: Option<OldFolder>) {
     }
 }
 
-// A session with a server of no older version than was seen before. Nothing is asked of an older one, and nothing of the folder changes
-// for it.
+// A session with a server of no older version than was seen before. Nothing is asked of an older
+// one, and nothing of the folder changes for it.
 fn session_of_no_older<'a>(
     rt: &'a HostRuntime,
     folder: Folder<'a>,
@@ -101,7 +104,8 @@ fn session_of_no_older<'a>(
     }
 }
 
-// How a command failed that came upon servers of older versions alone, with the version of the last one.
+// How a command failed that came upon servers of older versions alone, with the version of the last
+// one.
 fn older_failed(rt: &HostRuntime, older: Older) -> Failed {
     let connections = MORE_CONNECTIONS + 1;
     let Older { version, seen } = older;
@@ -111,8 +115,9 @@ fn older_failed(rt: &HostRuntime, older: Older) -> Failed {
     )
 }
 
-// Retrieves records over one connection, and prints each. A damaged hint is dropped at the end alone: all records are asked for in
-// the same way, whichever of them have their rows in the damaged part.
+// Retrieves records over one connection, and prints each. A damaged hint is dropped at the end
+// alone: all records are asked for in the same way, whichever of them have their rows in the
+// damaged part.
 fn get_records(
     rt: &HostRuntime,
     session: &mut Session<'_>,

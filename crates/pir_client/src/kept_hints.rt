@@ -1,5 +1,5 @@
-//! A hint that a folder keeps, with the changes beside it that move it on: of a SimplePIR hint the rows of one record are read, and
-//! moved, when it is asked for.
+//! A hint that a folder keeps, with the changes beside it that move it on: of a SimplePIR hint the
+//! rows of one record are read, and moved, when it is asked for.
 
 ghost use Rattle.std.specs.Prelude.{◌≡◌, ◌≤◌, IsTrue};
 ghost use Rattle.digit_pack.specs.Layout.{digit_rows};
@@ -11,7 +11,7 @@ use client_commands::CommandError;
 use client_state::{Folder, FolderFault, KeptChanges, KeptFile};
 use connection_io::piece_buffer;
 use digit_pack::is_wide;
-use frame_codec::{Frame, ReadFault, Reader, Taken};
+use frame_codec::{Frame, FrameRead, ReadFault, Reader};
 use hint_file::{HintError, HintFields, KeptHead, KeptHint, PartSpan, parts_for};
 use kept_changes::{ChangesReply, changes_ask, hint_after, judged, rows_after};
 use session_core::{CallFault, ConverseFault, Hint, Lanes, Plan, Scheme, ServerInfo};
@@ -41,7 +41,8 @@ pub enum Moved {
     NotKept,
     /// Likewise, but there was no room for what was added: the hint is to be written anew.
     Full,
-    /// Nowhere: the server doesn't have the changes since its version, which are too many, or too long ago.
+    /// Nowhere: the server doesn't have the changes since its version, which are too many, or too
+    /// long ago.
     Nowhere,
 }
 
@@ -69,7 +70,8 @@ impl<'a> MovedHint<'a> {
         self.changes.moved_fields(self.file.head())
     }
 
-    /// The parts with the rows of a record, if the hint is one of SimplePIR and, moved, of the version known.
+    /// The parts with the rows of a record, if the hint is one of SimplePIR and, moved, of the
+    /// version known.
     pub fn parts_for(&self, now: &ServerInfo, index: u32) -> Option<PartSpan> {
         let head = KeptHead {
             fields: self.fields(),
@@ -78,12 +80,13 @@ impl<'a> MovedHint<'a> {
         parts_for(&head, now, index)
     }
 
-    /// The rows of a record, moved to the version known; the hint's other rows are zeros, or of no version.
+    /// The rows of a record, moved to the version known; the hint's other rows are zeros, or of no
+    /// version.
     ///
     /// # Errors
     ///
-    /// `Damaged` when the parts have other bytes than the head of the file says, or the changes are of no use; `Read` when they can't be
-    /// read; `Memory` when memory was refused.
+    /// `Damaged` when the parts have other bytes than the head of the file says, or the changes are
+    /// of no use; `Read` when they can't be read; `Memory` when memory was refused.
     pub fn rows(&self, now: &ServerInfo, span: PartSpan, index: u32) -> Result<Hint, HintError> {
         let rows = self.file.parts(span)?;
         if self.changes.is_empty() {
@@ -129,12 +132,14 @@ impl<'a> MovedHint<'a> {
         }
     }
 
-    /// Asks which records have changed, if the hint is one of SimplePIR of a wide store and of an earlier version than the one known, and
-    /// adds them to the changes beside it. Of these frames nothing depends on a record.
+    /// Asks which records have changed, if the hint is one of SimplePIR of a wide store and of an
+    /// earlier version than the one known, and adds them to the changes beside it. Of these frames
+    /// nothing depends on a record.
     ///
     /// # Errors
     ///
-    /// `Refused` when the server refused it, `Conversation` when it came to no reply, `Call` when memory was refused.
+    /// `Refused` when the server refused it, `Conversation` when it came to no reply, `Call` when
+    /// memory was refused.
     pub fn move_on(
         &mut self,
         folder: &Folder<'a>,
@@ -160,7 +165,8 @@ impl<'a> MovedHint<'a> {
         }
     }
 
-    // Adds a block to the changes, if it leads to the version known. If another was published meanwhile, the next sync says so.
+    // Adds a block to the changes, if it leads to the version known. If another was published
+    // meanwhile, the next sync says so.
     fn add(
         &mut self,
         folder: &Folder<'a>,
@@ -248,12 +254,12 @@ fn reply_to(alloc: Global, server: &Server, ask: &[u8]) -> Result<Frame, Command
         };
         match reader.feed_frame(true, &buffer[..n]) {
             Ok(
-                Taken {
+                FrameRead {
                     count,
                     frame: Some(frame),
                 },
             ) if count == n => return Ok(frame),
-            Ok(Taken { frame: None, .. }) => {}
+            Ok(FrameRead { frame: None, .. }) => {}
             Err(ReadFault::Memory) => return Err(MEMORY),
             _ => return Err(BAD_REPLY),
         }

@@ -1,8 +1,8 @@
-//! A client of one server on this machine: it retrieves a record privately, replaces one, or publishes. Without
-//! a command it rehearses a script of a whole world.
+//! A client of one server on this machine: it retrieves a record privately, replaces one, or
+//! publishes. Without a command it rehearses a script of a whole world.
 //!
-//! Exit statuses: 0 done, 1 refused by the server, 2 a bad command line, 3 a fault, 4 out of memory. What was
-//! done is one line on standard output; a failure is one line on standard error.
+//! Exit statuses: 0 done, 1 refused by the server, 2 a bad command line, 3 a fault, 4 out of
+//! memory. What was done is one line on standard output; a failure is one line on standard error.
 //!
 //! Its tests are in `tests/command_line`, `tests/loopback` and `tests/rehearse`.
 #![tactic(auto)]

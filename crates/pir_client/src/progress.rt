@@ -31,7 +31,8 @@ impl<'a> Progress<'a> {
         }
     }
 
-    /// Says how many are there, after the first and the last one that come, and between them once a second.
+    /// Says how many are there, after the first and the last one that come, and between them once a
+    /// second.
     pub fn say(&mut self, taken: usize) {
         let Some(began) = self.began else {
             return;

@@ -15,14 +15,15 @@ pub struct Address<'a> {
     pub host: &'a str,
     /// Its port.
     pub port: u16,
-    /// How many seconds connecting may take, and each whole reply. Without it they may take any time.
+    /// How many seconds connecting may take, and each whole reply. Without it they may take any
+    /// time.
     pub timeout: Option<u64>,
     /// Whether it is greeted as the server of a wide store.
     pub wide: bool,
 }
 
-/// A connection to a server. A call that is sent after a reply begins a new deadline, which is that of its whole reply: a server
-/// that sends a byte now and then doesn't put it off.
+/// A connection to a server. A call that is sent after a reply begins a new deadline, which is that
+/// of its whole reply: a server that sends a byte now and then doesn't put it off.
 #[derive(Drop)]
 pub struct Server {
     rt: HostRuntime,
@@ -40,7 +41,8 @@ impl Server {
     ///
     /// # Errors
     ///
-    /// `Fault` with `Timeout` if the time was up before, and else with `Connect` if no address of the host takes the connection.
+    /// `Fault` with `Timeout` if the time was up before, and else with `Connect` if no address of
+    /// the host takes the connection.
     pub fn connect(rt: &HostRuntime, address: &Address<'_>) -> Result<Server, Failed> {
         match connected(rt, address) {
             Ok(stream) => Ok(Server {
@@ -55,7 +57,8 @@ impl Server {
         }
     }
 
-    /// How a command over this connection failed: by `Timeout` if a reply was not there in time, whatever the engine made of it.
+    /// How a command over this connection failed: by `Timeout` if a reply was not there in time,
+    /// whatever the engine made of it.
     pub fn failed(&self, address: &Address<'_>, failure: Failure) -> Failed {
         let alloc = self.rt.alloc();
         let host = address.host;

@@ -1,7 +1,8 @@
 //! A client with a folder of hints, over one connection.
 //!
-//! Which frames are sent depends on the head of the hint kept and the changes beside it, on the scheme and on what the server says, and
-//! not on the records: if the parts with a record's rows are damaged, its query and all later ones are sent all the same.
+//! Which frames are sent depends on the head of the hint kept and the changes beside it, on the
+//! scheme and on what the server says, and not on the records: if the parts with a record's rows
+//! are damaged, its query and all later ones are sent all the same.
 
 ghost use Rattle.client_commands.specs.Transcripts.{IsRecordAsked};
 
@@ -30,7 +31,8 @@ const STALE_ANSWERS: u32 = 3;
 pub enum RetrieveError {
     /// A call failed.
     Command(CommandError),
-    /// The hint kept is damaged where the record's rows stand. The record was asked for all the same, but its answer can't be read.
+    /// The hint kept is damaged where the record's rows stand. The record was asked for all the
+    /// same, but its answer can't be read.
     DamagedHint,
 }
 
@@ -56,7 +58,8 @@ pub struct Session<'a> {
     client: ClientCore<Lanes>,
     server: Server,
     scheme: Scheme,
-    // The hint kept, which the client doesn't hold: of SimplePIR's the rows of a record are read when it is asked for.
+    // The hint kept, which the client doesn't hold: of SimplePIR's the rows of a record are read
+    // when it is asked for.
     kept: Option<MovedHint<'a>>,
     warnings: Warnings,
     // Whether it is said how much of a hint has come.
@@ -64,8 +67,8 @@ pub struct Session<'a> {
 }
 
 impl<'a> Session<'a> {
-    /// Connects, asks to be let in, and judges the length of the server's secrets. Of the hint kept for this store the head is read.
-    /// The seed is one that no other run has.
+    /// Connects, asks to be let in, and judges the length of the server's secrets. Of the hint kept
+    /// for this store the head is read. The seed is one that no other run has.
     pub fn begin(
         rt: &'a HostRuntime,
         folder: Folder<'a>,
@@ -112,7 +115,8 @@ impl<'a> Session<'a> {
         self.warnings
     }
 
-    // Opens the hint that is kept for the store, and notes whether its server had reported a later version.
+    // Opens the hint that is kept for the store, and notes whether its server had reported a later
+    // version.
     fn look_up(&mut self) -> Result<(), AllocError> {
         let Some(now) = self.client.known() else {
             return Ok(());
@@ -144,15 +148,16 @@ impl<'a> Session<'a> {
         }
     }
 
-    /// Prepares so many retrievals at once, if they are more than one. Their records have no part in it. Without memory for it each
-    /// is made by itself.
+    /// Prepares so many retrievals at once, if they are more than one. Their records have no part
+    /// in it. Without memory for it each is made by itself.
     pub fn prepare(&mut self, count: usize) {
         if count > 1 {
             let _ = self.client.prepare_queries(count);
         }
     }
 
-    /// Retrieves a record: again under a new number, with the hint of the next version, where the answer is stale.
+    /// Retrieves a record: again under a new number, with the hint of the next version, where the
+    /// answer is stale.
     pub fn retrieve(&mut self, index: u32) -> Result<Retrieved, RetrieveError> {
         for _ in 0..STALE_ANSWERS {
             match self.attempt(index) {
@@ -171,7 +176,8 @@ impl<'a> Session<'a> {
         }
     }
 
-    // Asks for a record: over its rows of the hint kept, or once the hint of the version known is held.
+    // Asks for a record: over its rows of the hint kept, or once the hint of the version known is
+    // held.
     fn attempt(&mut self, index: u32) -> Result<Retrieved, RetrieveError> {
         self.move_kept()?;
         if let Some(rows) = self.rows_kept(index)? {
@@ -192,7 +198,8 @@ impl<'a> Session<'a> {
         }
     }
 
-    // Moves the hint kept to the version known, if the server says which records have changed. One that it can't move is of no more use.
+    // Moves the hint kept to the version known, if the server says which records have changed. One
+    // that it can't move is of no more use.
     fn move_kept(&mut self) -> Result<(), CommandError> {
         let (Some(kept), Some(now)) = (&mut self.kept, self.client.known()) else {
             return Ok(());
@@ -206,7 +213,8 @@ impl<'a> Session<'a> {
         Ok(())
     }
 
-    // Writes the hint kept anew, as its changes have moved it. One that is damaged is of no more use.
+    // Writes the hint kept anew, as its changes have moved it. One that is damaged is of no more
+    // use.
     fn fold(&mut self) -> Result<(), CommandError> {
         let Some(kept) = &self.kept else {
             return Ok(());
@@ -227,7 +235,8 @@ impl<'a> Session<'a> {
         }
     }
 
-    // The rows of a record in the hint kept, if that is one of SimplePIR and of the version known. Damaged rows are zeros.
+    // The rows of a record in the hint kept, if that is one of SimplePIR and of the version known.
+    // Damaged rows are zeros.
     fn rows_kept(&self, index: u32) -> Result<Option<Rows>, CommandError> {
         let (Some(kept), Some(now)) = (&self.kept, self.client.known()) else {
             return Ok(None);
@@ -246,8 +255,8 @@ impl<'a> Session<'a> {
         }
     }
 
-    // Asks for a record over its rows, which the client doesn't hold any more then. None where the hint is of another store: then
-    // nothing was asked, and the hint is of no more use.
+    // Asks for a record over its rows, which the client doesn't hold any more then. None where the
+    // hint is of another store: then nothing was asked, and the hint is of no more use.
     fn ask_over(&mut self, rows: Rows, index: u32) -> Result<Option<Retrieved>, RetrieveError> {
         let Rows { saved, are_sound } = rows;
         let asked = ask_with_rows(
@@ -272,8 +281,8 @@ impl<'a> Session<'a> {
         }
     }
 
-    // Sees to it that the client holds the hint of the version known: the one kept, read as a whole, or as a sync has moved or
-    // brought it.
+    // Sees to it that the client holds the hint of the version known: the one kept, read as a
+    // whole, or as a sync has moved or brought it.
     fn hold_hint(&mut self) -> Result<(), CommandError> {
         if let Some(kept) = self.kept.take() {
             self.take_up(kept.whole())?;
@@ -304,7 +313,8 @@ impl<'a> Session<'a> {
         }
     }
 
-    // Moves the hint to the version known, and keeps it: by delta, or part by part through the folder, or else without it.
+    // Moves the hint to the version known, and keeps it: by delta, or part by part through the
+    // folder, or else without it.
     fn move_hint(&mut self) -> Result<(), CommandError> {
         if self.move_by_delta()? || self.fetch_parts()? {
             return Ok(());
@@ -320,7 +330,8 @@ impl<'a> Session<'a> {
         Ok(())
     }
 
-    // Moves the hint by delta, if one of SimplePIR is held and the server has a delta. Else the client holds no hint then.
+    // Moves the hint by delta, if one of SimplePIR is held and the server has a delta. Else the
+    // client holds no hint then.
     fn move_by_delta(&mut self) -> Result<bool, CommandError> {
         match self.client.hint() {
             Some(hint) if hint.scheme == Scheme::Simple && self.scheme == Scheme::Simple => {}
@@ -362,9 +373,10 @@ impl<'a> Session<'a> {
             self.warnings.is_not_kept = true;
         }
         self.take_up(fetched.file.whole())?;
-        Ok(
-            matches!(self.client.hint(), Some(hint) if hint.scheme == self.scheme && hint.version == known.version),
-        )
+        let Some(hint) = self.client.hint() else {
+            return Ok(false);
+        };
+        Ok(hint.scheme == self.scheme && hint.version == known.version)
     }
 
     // Keeps the hint held.

@@ -34,7 +34,8 @@ pub enum Cause {
     /// A record that was retrieved of it is another one than the folder's.
     #[error("Differs: its record {0} is another: start it from a copy of the snapshot")]
     Differs(u32),
-    /// The server is at the folder's version, and has more or fewer records, or another one was published meanwhile.
+    /// The server is at the folder's version, and has more or fewer records, or another one was
+    /// published meanwhile.
     #[error("Differs: it has another number of records: start it from a copy of the snapshot")]
     OtherCount,
     /// A record could not be retrieved of it.

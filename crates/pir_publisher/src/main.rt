@@ -1,8 +1,9 @@
-//! A publisher's folder, from which its versions are brought to any number of servers: begins a folder, drafts changes of its
-//! records, shows them, publishes them as the next version, and pushes.
+//! A publisher's folder, from which its versions are brought to any number of servers: begins a
+//! folder, drafts changes of its records, shows them, publishes them as the next version, and
+//! pushes.
 //!
-//! Exit statuses: 0 done, 2 a bad command line, 3 a fault or a bad line of an import, 4 out of memory. What was done is printed on
-//! standard output; a failure is one line on standard error.
+//! Exit statuses: 0 done, 2 a bad command line, 3 a fault or a bad line of an import, 4 out of
+//! memory. What was done is printed on standard output; a failure is one line on standard error.
 //!
 //! Its tests are in `tests/publisher`.
 #![tactic(auto)]

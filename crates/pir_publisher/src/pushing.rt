@@ -26,13 +26,14 @@ const LEFT: Failure = Failure::Fault("Left");
 /// The failure if a server did not tell its version.
 const NO_REPLY: Failure = Failure::Fault("Connect");
 
-/// Brings servers to a folder's version, and prints a line for each. With `watch` this goes on, also after versions to come.
+/// Brings servers to a folder's version, and prints a line for each. With `watch` this goes on,
+/// also after versions to come.
 ///
 /// # Errors
 ///
-/// Those of the key; `Locked` if another push from this folder goes on, or another command changes it for long; those of the folder;
-/// `Left` if a server was left as it is,
-/// after a line for each. `Write` if a line can't be printed, `Memory`.
+/// Those of the key; `Locked` if another push from this folder goes on, or another command changes
+/// it for long; those of the folder; `Left` if a server was left as it is, after a line for each.
+/// `Write` if a line can't be printed, `Memory`.
 pub fn push(rt: &HostRuntime, pushing: &Pushing<'_>) -> Result<(), Failed> {
     let key = pushing
         .key
@@ -139,11 +140,13 @@ pub fn say_end(rt: &HostRuntime, peer: &Peer<'_>, end: End) -> Result<(), Failed
     }
 }
 
-/// Prints a line for each server: its address, its version, how many versions it lacks, and how many records it has.
+/// Prints a line for each server: its address, its version, how many versions it lacks, and how
+/// many records it has.
 ///
 /// # Errors
 ///
-/// Those of the folder; `Connect` if a server did not tell, after a line for each. `Write` if a line can't be printed, `Memory`.
+/// Those of the folder; `Connect` if a server did not tell, after a line for each. `Write` if a
+/// line can't be printed, `Memory`.
 pub fn status(rt: &HostRuntime, asking: &Asking<'_>) -> Result<(), Failed> {
     let folder = read_folder(rt, asking.dir)?;
     say_all(rt, &folder, &asking.to)

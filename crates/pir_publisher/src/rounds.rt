@@ -45,7 +45,8 @@ impl Rounds {
     ///
     /// # Errors
     ///
-    /// `Connect` if the system has nothing to wait for sockets with, `Memory` when memory was refused.
+    /// `Connect` if the system has nothing to wait for sockets with, `Memory` when memory was
+    /// refused.
     pub fn new(rt: &HostRuntime) -> Result<Rounds, Failure> {
         let Ok(events) = Events::with_capacity(rt.alloc(), EVENTS) else {
             return Err(Failure::Memory);
@@ -80,9 +81,9 @@ impl Rounds {
             .poll(&mut self.events, Some(Duration::from_millis(millis)));
     }
 
-    /// Brings these servers to a folder's version, as [`Rounds::run`] does, and then greets those anew that are there, to see that they have as
-    /// many records as the folder: what a session of before had appended, whose end a server has not seen yet, would be in their
-    /// version, too.
+    /// Brings these servers to a folder's version, as [`Rounds::run`] does, and then greets those
+    /// anew that are there, to see that they have as many records as the folder: what a session of
+    /// before had appended, whose end a server has not seen yet, would be in their version, too.
     ///
     /// # Errors
     ///
@@ -112,8 +113,8 @@ impl Rounds {
         Ok(ends)
     }
 
-    /// Has these servers their part side by side, each of which may say nothing for so many milliseconds, and answers how it ended with each, in
-    /// their order.
+    /// Has these servers their part side by side, each of which may say nothing for so many
+    /// milliseconds, and answers how it ended with each, in their order.
     ///
     /// # Errors
     ///
@@ -164,7 +165,8 @@ impl Rounds {
         }
     }
 
-    // Gives each server's connection a turn. Answers whether one is left, and whether one has more to do at once.
+    // Gives each server's connection a turn. Answers whether one is left, and whether one has more
+    // to do at once.
     fn turns<'a>(
         &mut self,
         round: &Round<'a>,
@@ -186,7 +188,8 @@ impl Rounds {
         (open, busy)
     }
 
-    // Gives a connection a turn, if there is one, and takes it away when its part has ended, which it answers how.
+    // Gives a connection a turn, if there is one, and takes it away when its part has ended, which
+    // it answers how.
     fn turn<'a>(
         &mut self,
         round: &Round<'a>,
@@ -249,7 +252,8 @@ impl Rounds {
     }
 }
 
-// How the part of a server ended that was brought to a folder's version, by what it told after that.
+// How the part of a server ended that was brought to a folder's version, by what it told after
+// that.
 fn confirmed(round: &Round<'_>, told: End) -> End {
     let version = round.folder;
     match told {

@@ -23,7 +23,8 @@ const READS: u32 = 16;
 pub enum Aim {
     /// Servers are brought to the folder's version.
     Push,
-    /// The same, and what was changed is retrieved of each and compared; of one that lacked nothing what the last publication changed.
+    /// The same, and what was changed is retrieved of each and compared; of one that lacked nothing
+    /// what the last publication changed.
     PushAndVerify,
     /// Servers tell what they have.
     Ask,
@@ -60,8 +61,8 @@ impl<'a> Round<'a> {
         self.folder.publications().without_first(count)
     }
 
-    // The publications whose changes are verified of a server that had the first so many: those that were pushed, or the last one if it
-    // had all.
+    // The publications whose changes are verified of a server that had the first so many: those
+    // that were pushed, or the last one if it had all.
     fn publications_to_verify(&self, count: usize) -> Publications<'a> {
         let all = self.folder.publications().count();
         self.publications_after(count.min(all.saturating_sub(1)))

@@ -27,8 +27,8 @@ pub struct Verifying {
 }
 
 impl Verifying {
-    /// Begins to retrieve the records that publications changed, at the version after them, by a client that was let in. Gives what is to
-    /// be sent first; `None` if they changed none.
+    /// Begins to retrieve the records that publications changed, at the version after them, by a
+    /// client that was let in. Gives what is to be sent first; `None` if they changed none.
     ///
     /// # Errors
     ///
@@ -61,7 +61,8 @@ impl Verifying {
     ///
     /// # Errors
     ///
-    /// `Differs` if a record is another one than the folder's, `Unverified` if one could not be retrieved.
+    /// `Differs` if a record is another one than the folder's, `Unverified` if one could not be
+    /// retrieved.
     pub fn feed(&mut self, piece: &[u8]) -> Result<Verified, Cause> {
         let fed = self.client.feed(piece);
         if fed.fault.is_some() {

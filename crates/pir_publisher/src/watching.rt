@@ -13,7 +13,8 @@ use std::fs;
 /// How many milliseconds pass between two looks at the folder.
 const LOOK: u64 = 1_000;
 
-/// How many milliseconds a server is left alone after it was away once, and how many at most. One that is well is greeted again after the most, too.
+/// How many milliseconds a server is left alone after it was away once, and how many at most. One
+/// that is well is greeted again after the most, too.
 const FIRST_REST: u64 = 1_000;
 
 const LONGEST_REST: u64 = 60_000;
@@ -53,7 +54,8 @@ impl Watched {
     }
 }
 
-/// Keeps servers at a folder's version, and prints a line when one comes to it or is left as it is. This ends when the process is killed.
+/// Keeps servers at a folder's version, and prints a line when one comes to it or is left as it is.
+/// This ends when the process is killed.
 ///
 /// # Errors
 ///
@@ -93,7 +95,8 @@ pub fn watch(
     Ok(())
 }
 
-// Whether a folder's log has another length by now: there is another version, or another snapshot with a log of its own.
+// Whether a folder's log has another length by now: there is another version, or another snapshot
+// with a log of its own.
 fn is_old(rt: &HostRuntime, folder: &FolderVersion) -> bool {
     let len = match fs::symlink_metadata(rt, folder.own.name.as_str()) {
         Ok(there) => there.len(),
@@ -125,7 +128,8 @@ fn all_well_due(all: &mut [Watched]) {
     }
 }
 
-// Tries the servers that are due, of those that are well or of the others, for which those don't wait as long.
+// Tries the servers that are due, of those that are well or of the others, for which those don't
+// wait as long.
 fn try_due(
     rt: &HostRuntime,
     rounds: &mut Rounds,

@@ -22,8 +22,8 @@ use Rattle.pir_schemes.specs.Retrievals.{
   IsQuietOf,
 }
 
--- what reading an answer comes to: the record that its digits write; or it has another count of words, it sets
--- a bit past the record's last byte, or memory was refused
+-- what reading an answer comes to: the record that its digits write; or it has another count of
+-- words, it sets a bit past the record's last byte, or memory was refused
 abbrev pub ReadsRecordOf : Scheme → Plan → ℕ → WordMatrix → List ℕ → ℕ → ℕ → List ℕ → Result (Vec ℕ Global) RecoverError → Type 0
 ReadsRecordOf s p count hint seed number i answer outcome =
     let l = shape_at p count in
@@ -53,13 +53,14 @@ abbrev pub AnswersHaveTheirLength : Type 0
 AnswersHaveTheirLength = (s : Scheme) (p : Plan) (records : List (List ℕ)) (words : List ℕ) →
     length (answer_words s p records words) ≡ answer_count s (shape_at p (length records)) p.dimension
 
--- a shape on which every retrieval is quiet: certain by its columns, and for DoublePIR by its rows too
+-- a shape on which every retrieval is quiet: certain by its columns, and for DoublePIR by its rows
+-- too
 abbrev pub IsCertainOf : Scheme → Shape → Type 0
 IsCertainOf Simple l = IsCertain l.width (digit_cols l)
 IsCertainOf Double l = IsCertain l.width (digit_cols l) × IsCertain l.width (digit_rows l)
 
--- a retrieval from a version, read under the version's hint, gives its record where it is quiet, and on a certain
--- shape always
+-- a retrieval from a version, read under the version's hint, gives its record where it is quiet,
+-- and on a certain shape always
 abbrev pub RetrievalGivesTheRecord : Type 0
 RetrievalGivesTheRecord = (s : Scheme) (p : Plan) (records : List (List ℕ)) (seed : List ℕ) (number i : ℕ) →
     IsPlan p (length records) → i < length records → IsRecordOf p (record_at records i) →
@@ -75,16 +76,16 @@ CertainShapeIsQuiet = (s : Scheme) (p : Plan) (records : List (List ℕ)) (seed 
     IsShape (shape_at p (length records)) → IsCertainOf s (shape_at p (length records)) →
     IsQuietOf s p records seed number i
 
--- whether word k of a query for record i is at one of the record's places: its column; and in part d of a second
--- layer, of as many words as there are rows, the row of its digit d
+-- whether word k of a query for record i is at one of the record's places: its column; and in part
+-- d of a second layer, of as many words as there are rows, the row of its digit d
 abbrev pub is_place : Scheme → Shape → ℕ → ℕ → Bool
 is_place Simple l i k = k == column_of l i
 is_place Double l i k =
     if nat_lt k (digit_cols l) then k == column_of l i
     else (k - digit_cols l) % digit_rows l == first_row l i + (k - digit_cols l) / digit_rows l
 
--- two queries of one seed and number, for records i and j: word k is the same in both where it is at a place of
--- both records or of neither; at a place of record i alone it is more by delta
+-- two queries of one seed and number, for records i and j: word k is the same in both where it is
+-- at a place of both records or of neither; at a place of record i alone it is more by delta
 pub record DifferAtTheirPlaces (s : Scheme) (l : Shape) (n : ℕ) (public seed : List ℕ) (number i j k : ℕ) : Type 0 where
   pub same : is_place s l i k ≡ is_place s l j k →
       slice_index (query_words s l n public seed number i) k ≡ slice_index (query_words s l n public seed number j) k

@@ -4,5 +4,5 @@ pub mod Masks
 pub mod Parts
 pub mod Plans
 pub mod Retrievals
-pub mod Rooms
+pub mod Buffers
 pub mod Schemes

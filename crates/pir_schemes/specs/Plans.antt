@@ -1,4 +1,5 @@
--- What stays the same in every version of some records, and how a version's records stand in digits.
+-- What stays the same in every version of some records, and how a version's records stand in
+-- digits.
 use Rattle.std.specs.Prelude.{◌≡◌, ◌≤◌, ◌<◌, ◌^◌, ◌*◌, ◌+◌, ℕ, List, All, length, map, Bool, true, Option, Some, None, ◌==◌, ◌&&◌, ◌||◌, nat_lt, nat_le, if◌then◌else◌}
 use Rattle.matrix_u32.specs.Matrix.{WordMatrix}
 use Rattle.seed_expand.specs.Words.{public_rows}
@@ -33,12 +34,13 @@ pub record IsPlan (p : Plan) (count : ℕ) : Type 0 where
 abbrev pub profile_of : Plan → ℕ
 profile_of p = p.form
 
--- the profile that a client asks for in its greeting, of an ordinary store or of a wide one: both forms are known to it
+-- the profile that a client asks for in its greeting, of an ordinary store or of a wide one: both
+-- forms are known to it
 abbrev pub client_profile : Bool → ℕ
 client_profile wide = if wide then 130 else 2
 
--- whether a server of this plan accepts a greeting in a profile: a client of profile 1 knows form 1 alone, and one of profile 129
--- form 129
+-- whether a server of this plan accepts a greeting in a profile: a client of profile 1 knows form 1
+-- alone, and one of profile 129 form 129
 abbrev pub accepts_profile : Plan → ℕ → Bool
 accepts_profile p profile =
     if is_wide p.form
@@ -78,7 +80,8 @@ records_held p count bytes = map (content p) (records_in (shape_at p count) byte
 abbrev pub digits_at : Plan → List (List ℕ) → WordMatrix
 digits_at p records = digit_matrix (shape_at p (length records)) (slots p records)
 
--- the first public matrix: a row for each column of digits, n columns, from stream 0 of the public seed
+-- the first public matrix: a row for each column of digits, n columns, from stream 0 of the public
+-- seed
 abbrev pub first_public : Shape → ℕ → List ℕ → WordMatrix
 first_public l n public = public_rows public 0 0 (digit_cols l) n
 
@@ -90,7 +93,8 @@ second_public l n public = public_rows public 1 0 (digit_rows l) n
 abbrev pub bytes_written : Plan → List ℕ → List ℕ
 bytes_written p digits = digits_of 8 p.record_len (number_of p.width digits)
 
--- the record that an answer's digits write; none where they set a bit past its last byte, or their bytes are no record's
+-- the record that an answer's digits write; none where they set a bit past its last byte, or their
+-- bytes are no record's
 unfoldable pub record_of : Plan → List ℕ → Option (List ℕ)
 record_of p digits =
     if nat_lt (number_of p.width digits) (2 ^ (8 * p.record_len)) && is_slot_of p (bytes_written p digits)

@@ -72,7 +72,8 @@ unfoldable pub reading : Scheme → Shape → WordMatrix → List ℕ → ℕ �
 reading Simple l hint seed number i answer = simple_reading l hint seed number i answer
 reading Double l hint seed number i answer = double_reading l hint seed number answer
 
--- the noise sums of retrieval `number` of a client's seed, for record i of a version, stay below half of delta
+-- the noise sums of retrieval `number` of a client's seed, for record i of a version, stay below
+-- half of delta
 abbrev pub IsQuietOf : Scheme → Plan → List (List ℕ) → List ℕ → ℕ → ℕ → Type 0
 IsQuietOf Simple p records seed number i =
     IsQuietRetrieval (shape_at p (length records)) (slots p records) seed number

@@ -6,8 +6,8 @@ ghost use Rattle.pir_schemes.specs.Laws.{IsCertainOf};
 use crate::scheme::Scheme;
 use digit_pack::Layout;
 
-/// Whether every retrieval on a layout is certain to give its record: whatever noise is drawn, its sums stay
-/// below half of delta. For DoublePIR the rows of digits are summed beside the columns.
+/// Whether every retrieval on a layout is certain to give its record: whatever noise is drawn, its
+/// sums stay below half of delta. For DoublePIR the rows of digits are summed beside the columns.
 pub fn is_certain(scheme: Scheme, layout: &Layout) -> bool
     ensures { IsTrue result ↔ IsCertainOf scheme layout.now }
 {

@@ -14,8 +14,9 @@ pub struct HintsHeld {
     pub double: bool,
 }
 
-// How many words so many retrievals move: those of the hint, unless it is held, and for each retrieval those of its query and of its
-// answer. `n` is the dimension of the public matrices, at most 1024.
+// How many words so many retrievals move: those of the hint, unless it is held, and for each
+// retrieval those of its query and of its answer. `n` is the dimension of the public matrices, at
+// most 1024.
 fn words_moved(scheme: Scheme, layout: &Layout, n: usize, times: u32, is_held: bool) -> u128
     requires { n ≤ 1024 }
     ensures { result ≡ words_of_retrievals scheme layout.now n times is_held }
@@ -30,8 +31,8 @@ fn words_moved(scheme: Scheme, layout: &Layout, n: usize, times: u32, is_held: b
     hint as u128 + u128::from(times) * (query + answer)
 }
 
-/// The scheme by which so many retrievals move fewer words; SimplePIR, if both move as many. `n` is the dimension of the public
-/// matrices, at most 1024. What is asked for has no part in this.
+/// The scheme by which so many retrievals move fewer words; SimplePIR, if both move as many. `n` is
+/// the dimension of the public matrices, at most 1024. What is asked for has no part in this.
 pub fn cheaper_scheme(layout: &Layout, n: usize, times: u32, held: HintsHeld) -> Scheme
     requires { n ≤ 1024 }
     ensures { result ≡ Scheme.Simple ↔

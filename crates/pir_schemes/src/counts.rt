@@ -1,4 +1,5 @@
-//! How many words hints, queries and answers have. `n` is the dimension of the public matrices, at most 1024.
+//! How many words hints, queries and answers have. `n` is the dimension of the public matrices, at
+//! most 1024.
 
 ghost use Rattle.std.specs.Prelude.{◌≡◌, ◌≤◌, ◌*◌};
 ghost use Rattle.lane_kernels.specs.Digit.{split_count as digits_in_word};

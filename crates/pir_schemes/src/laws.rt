@@ -1,5 +1,5 @@
-//! Laws of both schemes, over the definitions alone. A caller that calls one of these functions has its law at
-//! hand in its proof; the call costs nothing.
+//! Laws of both schemes, over the definitions alone. A caller that calls one of these functions has
+//! its law at hand in its proof; the call costs nothing.
 
 ghost use Rattle.pir_schemes.specs.Laws.{
   HintsHaveTheirSizes,
@@ -10,7 +10,8 @@ ghost use Rattle.pir_schemes.specs.Laws.{
   QueriesDifferAtTheirPlaces,
 };
 
-/// A hint made from scratch has the rows and columns that its scheme wants, and a word for each place.
+/// A hint made from scratch has the rows and columns that its scheme wants, and a word for each
+/// place.
 pub fn hints_have_their_sizes()
     ensures { HintsHaveTheirSizes }
 {}
@@ -20,8 +21,8 @@ pub fn queries_have_their_length()
     ensures { QueriesHaveTheirLength }
 {}
 
-/// Two queries of one seed and number, on one layout and one public seed, differ at the places of their records
-/// alone, in words that differ by delta.
+/// Two queries of one seed and number, on one layout and one public seed, differ at the places of
+/// their records alone, in words that differ by delta.
 pub fn queries_differ_at_their_places()
     ensures { QueriesDifferAtTheirPlaces }
 {}
@@ -31,8 +32,8 @@ pub fn answers_have_their_length()
     ensures { AnswersHaveTheirLength }
 {}
 
-/// The answer to the query for a record of a version, read under the version's hint, gives the record, wherever
-/// the retrieval is quiet; on a certain shape it always is.
+/// The answer to the query for a record of a version, read under the version's hint, gives the
+/// record, wherever the retrieval is quiet; on a certain shape it always is.
 pub fn retrieval_gives_the_record()
     ensures { RetrievalGivesTheRecord }
 {

@@ -1,12 +1,13 @@
-//! What SimplePIR and DoublePIR have in common, for the server and for the client: the schemes by name, the
-//! plan that stays the same in every version, how many words hints, queries and answers have, the parts in
-//! which hints are sent, and queries and readings by scheme.
+//! What SimplePIR and DoublePIR have in common, for the server and for the client: the schemes by
+//! name, the plan that stays the same in every version, how many words hints, queries and answers
+//! have, the parts in which hints are sent, and queries and readings by scheme.
 //!
-//! A plan and a count of records give a shape; a plan and the records of a version give its digit matrix, its
-//! hints and its answers. What a version's words are is said by these definitions alone (`specs/Plans`,
-//! `specs/Retrievals`), once for both schemes.
+//! A plan and a count of records give a shape; a plan and the records of a version give its digit
+//! matrix, its hints and its answers. What a version's words are is said by these definitions alone
+//! (`specs/Plans`, `specs/Retrievals`), once for both schemes.
 //!
-//! The tests of both cores, `session_tests::client` and `session_tests::server`, call what it has for both schemes.
+//! The tests of both cores, `tests_session::client` and `tests_session::server`, call what it has
+//! for both schemes.
 #![tactic(auto)]
 
 mod certainty;
@@ -15,8 +16,8 @@ mod counts;
 pub mod laws;
 mod parts;
 mod plan;
+mod query_buffers;
 mod query_masks;
-mod query_room;
 mod retrievals;
 mod scheme;
 mod slots;
@@ -26,8 +27,8 @@ pub use choosing::{HintsHeld, cheaper_scheme};
 pub use counts::{answer_count, hint_len, hint_rows, query_count};
 pub use parts::{DELTA_ROWS, PART_WORDS, part_len, part_words};
 pub use plan::{Plan, SecretSeed};
+pub use query_buffers::QueryBuffers;
 pub use query_masks::{MAX_MASKS, QueryMasks};
-pub use query_room::QueryRoom;
 pub use retrievals::recover;
 pub use scheme::{CLIENT_PROFILE, Scheme, WIDE_PROFILE, client_profile};
 pub use simple_scheme::RecoverError;

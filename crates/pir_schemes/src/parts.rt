@@ -18,8 +18,8 @@ pub fn part_len(total: usize, part: u32) -> usize
         .min(PART_WORDS)
 }
 
-/// Part `part` of a hint's words: those from 65,536 `part` on, at most 65,536. `None` exactly when there are no
-/// words so far on.
+/// Part `part` of a hint's words: those from 65,536 `part` on, at most 65,536. `None` exactly when
+/// there are no words so far on.
 pub fn part_words(words: &[u32], part: usize) -> Option<&[u32]>
     ensures none { IsNone result ↔ (length words.now ≤ 65536 * part) }
     ensures words { IfSome result (λ some. some.now ≡ part_of words.now part) }

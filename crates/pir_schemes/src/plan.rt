@@ -8,12 +8,12 @@ use crate::scheme::{CLIENT_PROFILE, WIDE_PROFILE};
 use digit_pack::{Layout, LayoutError, is_wide};
 use std::marker::Model;
 
-/// What stays the same in every version of some records. With a count of records it says how many words hints,
-/// queries and answers have, and with the records of a version what these words are.
+/// What stays the same in every version of some records. With a count of records it says how many
+/// words hints, queries and answers have, and with the records of a version what these words are.
 #[derive(Clone, Copy, Debug, PartialEq, Eq)]
 pub struct Plan {
-    /// 1 if all records have one length, 2 if each has its own and stands in a slot; 129 and 130 likewise, with a wide
-    /// digit matrix.
+    /// 1 if all records have one length, 2 if each has its own and stands in a slot; 129 and 130
+    /// likewise, with a wide digit matrix.
     pub form: u16,
     /// How many bits a digit has.
     pub width: u8,
@@ -28,8 +28,9 @@ pub struct Plan {
 }
 
 impl Plan {
-    /// Whether a server of this plan accepts a greeting in a profile. A client of profile 1 knows records of one length
-    /// alone, and one of profile 2 both kinds; of a wide store, profiles 129 and 130 likewise.
+    /// Whether a server of this plan accepts a greeting in a profile. A client of profile 1 knows
+    /// records of one length alone, and one of profile 2 both kinds; of a wide store, profiles 129
+    /// and 130 likewise.
     pub fn accepts_profile(&self, profile: u16) -> bool
         ensures { result ≡ accepts_profile self.now profile }
     {
@@ -40,8 +41,8 @@ impl Plan {
         }
     }
 
-    /// The sizes of `count` records. They are accepted exactly within the limits; else the first cause is named, in
-    /// the order of [`LayoutError`].
+    /// The sizes of `count` records. They are accepted exactly within the limits; else the first
+    /// cause is named, in the order of [`LayoutError`].
     pub fn layout(&self, count: usize) -> Result<Layout, LayoutError>
         ensures accepted { IfOk result (λ l. (l ≡ shape_at self.now count) × IsLayout l) }
         ensures refused { IfErr result (IsLayoutFault (shape_at self.now count)) }
@@ -64,8 +65,9 @@ impl Plan {
     }
 }
 
-/// The seed of a client's secrets and noise, which no server learns. Being a type of its own it can't stand where a
-/// public seed is wanted, nor a public one here. A contract sees it as its 32 bytes.
+/// The seed of a client's secrets and noise, which no server learns. Being a type of its own it
+/// can't stand where a public seed is wanted, nor a public one here. A contract sees it as its 32
+/// bytes.
 #[derive(Clone, Copy)]
 pub struct SecretSeed {
     bytes: [u8; 32],

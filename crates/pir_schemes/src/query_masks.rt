@@ -11,15 +11,15 @@ ghost use Rattle.pir_schemes.specs.Masks.{Serve, public_over};
 use crate::plan::{Plan, SecretSeed};
 use matrix_u32::Kernel;
 use seed_expand::{WordSource, source_gives_rows};
-use simple_scheme::MaskRoom;
+use simple_scheme::MaskBuffers;
 use std::alloc::{AllocError, Global};
 use std::marker::Model;
 
 /// The most retrievals that masks are made for.
 pub const MAX_MASKS: usize = 16;
 
-/// What masks are made for: a plan and its columns of digits, and `count` retrievals of a client's seed, from number `first`
-/// on.
+/// What masks are made for: a plan and its columns of digits, and `count` retrievals of a client's
+/// seed, from number `first` on.
 #[derive(Clone, Copy)]
 pub(crate) struct MasksFor {
     plan: Plan,
@@ -30,7 +30,8 @@ pub(crate) struct MasksFor {
 }
 
 impl MasksFor {
-    // Whether retrieval `number` of a client's seed, on a version with so many records, is one of these.
+    // Whether retrieval `number` of a client's seed, on a version with so many records, is one of
+    // these.
     fn have(&self, plan: &Plan, records: usize, seed: &SecretSeed, number: u64) -> bool
         requires { IsPlan plan.now records }
         ensures { IsTrue result ↔ Serve self.now plan.now records seed.now number }
@@ -57,9 +58,10 @@ fn is_among(first: u64, count: usize, number: u64) -> bool
     first <= number && number - first < count as u64
 }
 
-/// The masks of several retrievals, by either scheme, which their queries are made of once their records are named
-/// (`QueryRoom::fill_masked`): all of a query by SimplePIR, of one by DoublePIR its first part, which is as long. Each row of the
-/// first public matrix is made once for all of them.
+/// The masks of several retrievals, by either scheme, which their queries are made of once their
+/// records are named (`QueryBuffers::fill_masked`): all of a query by SimplePIR, of one by
+/// DoublePIR its first part, which is as long. Each row of the first public matrix is made once for
+/// all of them.
 ///
 /// A contract sees what they are made for.
 #[derive(Drop)]
@@ -83,8 +85,9 @@ impl Model for QueryMasks {
 }
 
 impl QueryMasks {
-    /// The masks of the `count` retrievals of a client's seed from number `first` on, at most 16, on a version with so many
-    /// records. Only refused memory gives an `Err`; it is asked for first, by sizes alone.
+    /// The masks of the `count` retrievals of a client's seed from number `first` on, at most 16,
+    /// on a version with so many records. Only refused memory gives an `Err`; it is asked for
+    /// first, by sizes alone.
     pub fn new<K: Kernel>(
         alloc: Global,
         kernel: K,
@@ -108,7 +111,7 @@ impl QueryMasks {
         // The sizes are within the limits: no refusal is left.
         let layout = plan.layout(records).unwrap();
         let n = usize::from(plan.dimension);
-        let room = MaskRoom::new(alloc, &layout, n, count)?;
+        let room = MaskBuffers::new(alloc, &layout, n, count)?;
         source_gives_rows();
         let source = WordSource::at(&plan.seed, 0, 0);
         let masks = room.fill(kernel, source, seed.bytes(), first);
@@ -122,7 +125,8 @@ impl QueryMasks {
         Ok(QueryMasks { made, masks })
     }
 
-    /// Whether retrieval `number` of a client's seed, on a version with so many records, is one of them.
+    /// Whether retrieval `number` of a client's seed, on a version with so many records, is one of
+    /// them.
     pub fn serve(&self, plan: &Plan, records: usize, seed: &SecretSeed, number: u64) -> bool
         requires { IsPlan plan.now records }
         ensures { IsTrue result ↔ Serve self.now plan.now records seed.now number }
@@ -130,26 +134,28 @@ impl QueryMasks {
         self.made.have(plan, records, seed, number)
     }
 
-    /// The query by SimplePIR for record i of retrieval `number`, which is one of them. It takes no memory.
-    pub(crate) fn fill(&self, room: simple_scheme::QueryRoom, number: u64, i: usize) -> Vec<u32>
+    /// The query by SimplePIR for record i of retrieval `number`, which is one of them. It takes no
+    /// memory.
+    pub(crate) fn fill(&self, room: simple_scheme::QueryBuffers, number: u64, i: usize) -> Vec<u32>
         requires low { self.now.first ≤ number }
         requires high { number < self.now.first + self.now.count }
         requires number { number < 2 ^ 62 }
         requires columns { digit_cols room.layout ≡ self.now.cols }
         requires record { i < room.layout.count }
         ensures { result.items ≡
-            simple_query room.layout (public_over self.now.plan self.now.cols) self.now.seed number i }
+            simple_query room.layout (public_over self.now.plan self.now.cols) self.now.seed number
+            i }
     {
         let c = (number - self.made.first) as usize;
         room.fill_masked(&self.masks, c, self.made.seed.bytes(), number, i)
     }
 
-    /// The query by DoublePIR for record i of retrieval `number`, which is one of them. The rows of the second public matrix are
-    /// made for it alone. It takes no memory.
+    /// The query by DoublePIR for record i of retrieval `number`, which is one of them. The rows of
+    /// the second public matrix are made for it alone. It takes no memory.
     pub(crate) fn fill_double<K: Kernel>(
         &self,
         kernel: K,
-        room: double_scheme::QueryRoom,
+        room: double_scheme::QueryBuffers,
         number: u64,
         i: usize,
     ) -> Vec<u32>

@@ -12,11 +12,12 @@ use matrix_u32::{Kernel, Matrix};
 use simple_scheme::RecoverError;
 use std::alloc::Global;
 
-/// The record that an answer gives for record i of `count` records of the plan, under the hint of its version.
+/// The record that an answer gives for record i of `count` records of the plan, under the hint of
+/// its version.
 ///
-/// `BadLength` exactly when the answer hasn't the scheme's count of words, `BadDigits` exactly when it has and
-/// its digits set a bit past the record's last byte, or their bytes are no slot where the plan has slots; `Memory` only
-/// where it has its words.
+/// `BadLength` exactly when the answer hasn't the scheme's count of words, `BadDigits` exactly when
+/// it has and its digits set a bit past the record's last byte, or their bytes are no slot where
+/// the plan has slots; `Memory` only where it has its words.
 #[tactic(auto, unfolding(crate::specs::Retrievals::reading, crate::specs::Plans::record_of))]
 pub fn recover<K: Kernel>(
     alloc: Global,

@@ -4,8 +4,8 @@ ghost use Rattle.std.specs.Prelude.{◌≡◌};
 ghost use Rattle.pir_schemes.specs.Schemes.{scheme_byte, scheme_of_byte};
 ghost use Rattle.pir_schemes.specs.Plans.{client_profile};
 
-/// The profile that a client of an ordinary store asks for in its greeting: forms 1 and 2 are known to it. A server speaks
-/// the profile of its form.
+/// The profile that a client of an ordinary store asks for in its greeting: forms 1 and 2 are known
+/// to it. A server speaks the profile of its form.
 pub const CLIENT_PROFILE: u16 = 2;
 
 /// The profile that a client of a wide store asks for: forms 129 and 130 are known to it.

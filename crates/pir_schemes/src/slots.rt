@@ -13,8 +13,8 @@ use digit_pack::{
 };
 
 impl Plan {
-    /// Whether there is such a form, for records of so many bytes: 1 and 129; 2 and 130 if a record has two bytes at
-    /// least.
+    /// Whether there is such a form, for records of so many bytes: 1 and 129; 2 and 130 if a record
+    /// has two bytes at least.
     pub fn has_form(&self) -> bool
         ensures { result ≡ is_form self.now.form self.now.record_len }
     {
@@ -47,7 +47,8 @@ impl Plan {
         }
     }
 
-    /// Whether the bytes of each record are those of one, of records that stand one after another in `bytes`.
+    /// Whether the bytes of each record are those of one, of records that stand one after another
+    /// in `bytes`.
     #[tactic(auto, using(crate::proofs::SlotLists::all_slots))]
     pub fn has_records(&self, layout: &Layout, bytes: &[u8]) -> bool
         requires { length bytes.now ≡ layout.now.count * layout.now.record_len }
@@ -60,7 +61,8 @@ impl Plan {
         }
     }
 
-    /// Writes the bytes that a record has in the digits into `out`, whatever it held. It takes no memory.
+    /// Writes the bytes that a record has in the digits into `out`, whatever it held. It takes no
+    /// memory.
     #[tactic(auto, unfolding(crate::specs::Plans::fits, crate::specs::Plans::slot))]
     pub fn fill(&self, bytes: &[u8], out: &mut [u8])
         requires fits { fits self.now bytes.now ≡ true }
@@ -75,8 +77,8 @@ impl Plan {
         }
     }
 
-    /// Writes another record over record i, of records that stand one after another in `bytes`, and changes no other. It
-    /// takes no memory.
+    /// Writes another record over record i, of records that stand one after another in `bytes`, and
+    /// changes no other. It takes no memory.
     #[tactic(auto, unfolding(crate::specs::Plans::fits, crate::specs::Plans::slot))]
     pub fn write(&self, layout: &Layout, bytes: &mut [u8], i: usize, written: &[u8])
         requires len { layout.now.record_len ≡ self.now.record_len }
@@ -93,8 +95,8 @@ impl Plan {
         }
     }
 
-    /// Moves the record that has these bytes in the digits to their beginning, and answers how many bytes it has. What follows it is not
-    /// said. It takes no memory.
+    /// Moves the record that has these bytes in the digits to their beginning, and answers how many
+    /// bytes it has. What follows it is not said. It takes no memory.
     #[tactic(auto, unfolding(crate::specs::Plans::content, crate::specs::Plans::is_slot_of))]
     pub fn move_content(&self, bytes: &mut [u8]) -> usize
         requires { is_slot_of self.now bytes.old ≡ true }

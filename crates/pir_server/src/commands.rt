@@ -6,10 +6,10 @@ ghost use Rattle.server_commands.specs.Moves.{HasRecordsOf, IsWideOf};
 
 use crate::running::run_file;
 use command_words::{Failed, Failure, open_standard_descriptors, printed, program_words};
+use mio_server::say_line;
 use server_commands::{back_up, make, moved, rekey, serve_file, show, widened};
 use server_files::{OwnFile, RecordsOf, compact_file, failed_at, whole_of, write_anew};
 use server_words::{Making, Migrating, SEED_TAKES, Task, Widening, task_of};
-use service_loop::say_line;
 use session_core::{OnceFault, Snapshot, once};
 use std::io;
 
@@ -36,8 +36,8 @@ pub fn run(rt: &HostRuntime) -> u8 {
     }
 }
 
-// Says why a server that ran has ended, and answers the exit status. Nobody is waited for who is to read it: a server that has failed
-// is to end.
+// Says why a server that ran has ended, and answers the exit status. Nobody is waited for who is to
+// read it: a server that has failed is to end.
 fn said(rt: &HostRuntime, failed: &Failed, verbose: bool) -> u8 {
     let failure = failed.failure;
     let lines = match &failed.cause {
@@ -67,13 +67,14 @@ fn run_task(rt: &HostRuntime, task: Task<'_>) -> Result<(), Failed> {
     }
 }
 
-// Makes a snapshot file, and tells how many records it has and its version.
+// Makes a snapshot file, and answers how many records it has and its version.
 fn make_file(rt: &HostRuntime, making: &Making<'_>) -> Result<(), Failed> {
     let count = make(rt, making)?;
     printed(rt, println!(rt; "made {count} 1"))
 }
 
-// Moves the records of a snapshot file into slots, and tells how many there are and their version.
+// Moves the records of a snapshot file into slots, and answers how many there are and their
+// version.
 fn migrate_file(rt: &HostRuntime, migrating: &Migrating<'_>) -> Result<(), Failed> {
     let mut out = match OwnFile::to_write(rt, migrating.out) {
         Ok(out) => out,
@@ -91,7 +92,8 @@ fn migrate_file(rt: &HostRuntime, migrating: &Migrating<'_>) -> Result<(), Faile
     printed(rt, println!(rt; "migrated {count} {version}"))
 }
 
-// Puts the records of a snapshot file into a wide store, and tells how many there are and their version.
+// Puts the records of a snapshot file into a wide store, and answers how many there are and their
+// version.
 fn widen_file(rt: &HostRuntime, widening: &Widening<'_>) -> Result<(), Failed> {
     let seed = widening
         .seed

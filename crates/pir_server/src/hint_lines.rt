@@ -3,8 +3,8 @@
 ghost use Rattle.std.specs.Prelude.{◌≡◌, IfOk, string_bytes};
 ghost use Rattle.pir_server.specs.HintLines.{hint_line};
 
+use mio_server::say_line;
 use server_files::Pace;
-use service_loop::say_line;
 use std::alloc::{AllocError, Global};
 use version_store::HintWatcher;
 

@@ -1,12 +1,13 @@
-//! A server of private information retrieval on this machine: it makes a snapshot file of records, shows one, copies one, gives one
-//! another publisher's key, shortens its log, and serves one to clients over connections. Without a command it serves one database over standard input
-//! and output.
+//! A server of private information retrieval on this machine: it makes a snapshot file of records,
+//! shows one, copies one, gives one another publisher's key, shortens its log, and serves one to
+//! clients over connections. Without a command it serves one database over standard input and
+//! output.
 //!
-//! Exit statuses: 0 done, 2 a bad command line, 3 a fault, 4 out of memory. What was done is printed on
-//! standard output; a failure is one line on standard error.
+//! Exit statuses: 0 done, 2 a bad command line, 3 a fault, 4 out of memory. What was done is
+//! printed on standard output; a failure is one line on standard error.
 //!
-//! Its tests are in `tests/command_line`, `tests/causes`, `tests/streams`, `tests/order`, `tests/log`, `tests/loopback`, `tests/making`,
-//! `tests/service` and `tests/once`.
+//! Its tests are in `tests/command_line`, `tests/causes`, `tests/streams`, `tests/order`,
+//! `tests/log`, `tests/loopback`, `tests/making`, `tests/service` and `tests/once`.
 #![tactic(auto)]
 
 mod commands;

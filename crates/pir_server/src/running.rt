@@ -6,31 +6,35 @@ ghost use Rattle.server_files.specs.Saved.{saved_version};
 use crate::hint_lines::HintLines;
 use crate::saving::FileSaver;
 use command_words::{Failed, Failure};
+use mio_server::{Limits, RunFault, run_service, say_line};
 use server_files::{OwnFile, failed_at, not_listening, open_pair, progress_of_file};
 use server_words::RunOptions;
-use service_loop::{Limits, RunFault, run_service, say_line};
 use session_core::{Lanes, ServerCore, Store};
 
 /// How many bytes a MiB has.
 const MIB: u64 = 1_048_576;
 
-/// How many descriptors are kept for all but connections, without `--status`: standard input, output and error, the listener, events, the file, its
-/// lock and folder, a version that is saved, and some that whoever started the process left open.
+/// How many descriptors are kept for all but connections, without `--status`: standard input,
+/// output and error, the listener, events, the file, its lock and folder, a version that is saved,
+/// and some that whoever started the process left open.
 const OTHER_DESCRIPTORS: u64 = 16;
 
 /// How many are kept for those who ask how the server does: their listener, and eight connections.
 const STATUS_DESCRIPTORS: u64 = 9;
 
-/// Serves a snapshot file over many connections side by side, until the process is killed, or standard input has ended if that is wanted. Each publication is appended to the log
-/// beside the file before it is made. No other process serves or replaces the file meanwhile.
+/// Serves a snapshot file over many connections side by side, until the process is killed, or
+/// standard input has ended if that is wanted. Each publication is appended to the log beside the
+/// file before it is made. No other process serves or replaces the file meanwhile.
 ///
 /// # Errors
 ///
-/// In this order: `File` where there is no file, `Locked` where another process has it, those of the snapshot, `Write` where the
-/// file can't be sent to the device, those of its log (`File`, `BadLog`, `Write` where a torn end can't be cut off, or where a log that
-/// is too long can't be made shorter), `Input` where standard input is to be watched and can't be, `Connect` where the address or that of `--status` can't be listened on, and `Write` where
-/// one can't be printed, or what is left of a failed append can't be cut off. `Memory` where there was none. A connection that is closed
-/// before its end is reported on standard error, and ends nothing else.
+/// In this order: `File` where there is no file, `Locked` where another process has it, those of
+/// the snapshot, `Write` where the file can't be sent to the device, those of its log (`File`,
+/// `BadLog`, `Write` where a torn end can't be cut off, or where a log that is too long can't be
+/// made shorter), `Input` where standard input is to be watched and can't be, `Connect` where the
+/// address or that of `--status` can't be listened on, and `Write` where one can't be printed, or
+/// what is left of a failed append can't be cut off. `Memory` where there was none. A connection
+/// that is closed before its end is reported on standard error, and ends nothing else.
 pub fn run_file(rt: &HostRuntime, options: &RunOptions<'_>) -> Result<(), Failed> {
     let mut file = match OwnFile::to_read(rt, options.file) {
         Ok(file) => file,
@@ -118,8 +122,9 @@ fn bytes_of_mib(count: u64) -> usize {
     usize::try_from(count.saturating_mul(MIB)).unwrap_or(usize::MAX)
 }
 
-// The store of a file and its log, and what appends to that log. A log of more than so many bytes is made shorter first. Lines are
-// printed while the file is read, if they are wanted, and while the hints are made.
+// The store of a file and its log, and what appends to that log. A log of more than so many bytes
+// is made shorter first. Lines are printed while the file is read, if they are wanted, and while
+// the hints are made.
 fn open_to_run(
     rt: &HostRuntime,
     file: &mut OwnFile<'_>,
@@ -144,8 +149,8 @@ fn open_to_run(
     Ok((store, FileSaver { log }))
 }
 
-// How many connections there may be at once: as many as are asked for, or fewer where the process may have too few descriptors, which
-// is said then.
+// How many connections there may be at once: as many as are asked for, or fewer where the process
+// may have too few descriptors, which is said then.
 fn possible_most(rt: &HostRuntime, asked: usize, others: u64) -> Result<usize, Failure> {
     let Some(descriptors) = descriptor_limit() else {
         return Ok(asked);
@@ -167,7 +172,8 @@ fn other_descriptors(options: &RunOptions<'_>) -> u64 {
     }
 }
 
-// How many of the connections that are asked for so many descriptors have room for beside so many others: one at least.
+// How many of the connections that are asked for so many descriptors have room for beside so many
+// others: one at least.
 fn within_descriptors(asked: usize, descriptors: u64, others: u64) -> usize
     ensures { result ≡ min asked (max 1 (descriptors - others)) }
 {

@@ -1,8 +1,8 @@
 //! Publications saved in the log of a snapshot file, for the loop.
 
+use mio_server::{AppendFailed, SaveFailed, Saver};
 use publication_log::LogFile;
 use server_files::LogSaver;
-use service_loop::{AppendFailed, SaveFailed, Saver};
 use session_core::{Lanes, Store};
 
 /// Saves publications in the log of a snapshot file.

@@ -19,7 +19,7 @@ use Rattle.client_core.specs.declared.state.Call.{Call}
 use Rattle.client_core.specs.declared.state.Call.TheVariants.{Idle, Hello, Sync, Delta, Changes, Ask, Edit, Append, Publish}
 use Rattle.client_core.specs.States.{is_wide_client, is_idle, is_ready, known_version, known_count, scheme_held, simple_version, delta_base}
 use Rattle.client_core.specs.Calls.{call_since, refusal, sync_begun, state_after_call, call_frame}
-use Rattle.client_core.specs.Calls.{Hello as want_hello, Sync as want_sync, Ask as want_ask}
+use Rattle.client_core.specs.Calls.{Hello as hello_call, Sync as sync_call, Ask as ask_call}
 use Rattle.client_core.specs.Replies.{reaction_to_reply}
 use Rattle.client_core.specs.Feeding.{takes_all, fault_of}
 use Rattle.pir_world.specs.Runs.{Wire, Link, Entry, sent, arrived, beyond, link_called, link_reported, link_served, turn_of, reported_by, reacts, reader_key}
@@ -132,7 +132,7 @@ module _ (x : Setting) (h : History) (seed : List ℕ) (l : Link) (g : GoodHisto
   nothing_waits : l.client.call ≡ Idle → (l.up.frames ≡ []) × (l.down.frames ≡ [])
   nothing_waits e = idle_phase x h l.standing seed l.client l.client.call l.up.frames l.down.frames e i.phase
 
-  pub called_hello : refusal (want_hello reader_key) l.client ≡ None → LinkInvariant x h seed (link_called (want_hello reader_key) l)
+  pub called_hello : refusal (hello_call reader_key) l.client ≡ None → LinkInvariant x h seed (link_called (hello_call reader_key) l)
   called_hello e =
       let a = else_none l.client.failed _ _ e in
       let b = else_none (is_some l.client.known) _ _ a.1 in
@@ -145,7 +145,7 @@ module _ (x : Setting) (h : History) (seed : List ℕ) (l : Link) (g : GoodHisto
         known = i.known;
         hint = i.hint;
         call = refl;
-        phase = flight x h l.standing seed (state_after_call (want_hello reader_key) l.client) (Hello reader_key) l.up.frames l.down.frames
+        phase = flight x h l.standing seed (state_after_call (hello_call reader_key) l.client) (Hello reader_key) l.up.frames l.down.frames
             (nothing_waits (idle_is l.client.call d.0));
       }
 
@@ -180,14 +180,14 @@ module _ (x : Setting) (h : History) (seed : List ℕ) (l : Link) (g : GoodHisto
             (flight x h l.standing seed c (call_since (is_wide_client l.client) since) l.up.frames l.down.frames (nothing_waits idle));
       }
 
-  pub called_sync : (scheme : Scheme) → refusal (want_sync scheme) l.client ≡ None → LinkInvariant x h seed (link_called (want_sync scheme) l)
+  pub called_sync : (scheme : Scheme) → refusal (sync_call scheme) l.client ≡ None → LinkInvariant x h seed (link_called (sync_call scheme) l)
   called_sync scheme e =
       let a = else_none l.client.failed _ _ e in
       let b = then_none (is_some l.client.known) _ _ a.1 in
       let d = then_none (is_idle l.client.call) _ _ b.1 in
       sync_begins (delta_base scheme l.client.hint) scheme refl b.0 (idle_is l.client.call d.0)
 
-  pub called_ask : (j : ℕ) → refusal (want_ask j) l.client ≡ None → LinkInvariant x h seed (link_called (want_ask j) l)
+  pub called_ask : (j : ℕ) → refusal (ask_call j) l.client ≡ None → LinkInvariant x h seed (link_called (ask_call j) l)
   called_ask j e =
       let a = else_none l.client.failed _ _ e in
       let b = then_none (is_ready l.client.known l.client.hint) _ _ a.1 in
@@ -213,7 +213,7 @@ module _ (x : Setting) (h : History) (seed : List ℕ) (l : Link) (g : GoodHisto
           scheme_is = sym (ap scheme_held r.hint_is);
           version_is = r.version_is ∙ sym version;
         };
-        phase = flight x h l.standing seed (state_after_call (want_ask j) l.client)
+        phase = flight x h l.standing seed (state_after_call (ask_call j) l.client)
             (Ask j (scheme_held l.client.hint) (known_version l.client.known) l.client.number) l.up.frames l.down.frames
             (nothing_waits (idle_is l.client.call d.0));
       }

@@ -1,4 +1,5 @@
--- What Changes say of two versions: a client accepts their entries, which move the hint of the one to that of the other.
+-- What Changes say of two versions: a client accepts their entries, which move the hint of the one
+-- to that of the other.
 use Rattle.std.proofs.Common.{◌≡◌, ℕ, zero, suc, ◌+◌, ◌-◌, ◌*◌, ◌%◌, ◌^◌, ◌<◌, ◌≤◌, Bool, true, false, All, List, [], length, replicate, refl, ap, ◌∙◌, arith}
 use Rattle.std.specs.Prelude.{if◌then◌else◌, map, nat_eq, nat_le, nat_lt, ◌&&◌, ◌==◌}
 use Rattle.std.specs.List.{list_all, range_with_len}

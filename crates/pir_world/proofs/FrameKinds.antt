@@ -20,7 +20,7 @@ use Rattle.client_core.specs.declared.state.ClientState.{ClientState}
 use Rattle.client_core.specs.declared.state.Reaction.{Reaction}
 use Rattle.client_core.specs.declared.state.Reaction.TheVariants.{Asks, Reports, Fails}
 use Rattle.client_core.specs.States.{is_wide_client, delta_base}
-use Rattle.client_core.specs.Calls.{Want, Hello, Sync, Ask, Edit, Append, Publish, call_frame, call_since, state_after_call, sync_begun}
+use Rattle.client_core.specs.Calls.{ClientCall, Hello, Sync, Ask, Edit, Append, Publish, call_frame, call_since, state_after_call, sync_begun}
 use Rattle.client_core.specs.Replies.{reaction_to_reply}
 use Rattle.client_core.specs.Feeding.{Course, runs, course_more, takes_all, start, sends_of}
 use Rattle.pir_world.specs.Runs.{Link, Turn, served_or, turn_more, turns, turn_of, arrived}
@@ -75,7 +75,7 @@ sync_known None scheme c = refl
 sync_known (Some since) scheme c = since_known (is_wide_client c) (sync_begun (Some since) scheme c) since
 
 -- the frame of a call
-pub call_known : (w : Want) (c : ClientState) → Known (is_wide_client c) (call_frame (state_after_call w c) (state_after_call w c).call)
+pub call_known : (w : ClientCall) (c : ClientState) → Known (is_wide_client c) (call_frame (state_after_call w c) (state_after_call w c).call)
 call_known (Hello key) c = refl
 call_known (Sync scheme) c = sync_known (delta_base scheme c.hint) scheme c
 call_known (Ask i) c = refl

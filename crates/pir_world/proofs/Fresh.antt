@@ -17,8 +17,8 @@ use Rattle.client_core.specs.declared.state.Event.{Event}
 use Rattle.client_core.specs.declared.state.Event.TheVariants.{Welcomed, Synced, Retrieved, Unreadable, Stale, Done, Refused}
 use Rattle.client_core.specs.declared.state.Reaction.{Reaction}
 use Rattle.client_core.specs.declared.state.Reaction.TheVariants.{Asks, Reports, Fails}
-use Rattle.client_core.specs.Calls.{Want, refusal}
-use Rattle.client_core.specs.Calls.{Hello as want_hello, Sync as want_sync, Ask as want_ask}
+use Rattle.client_core.specs.Calls.{ClientCall, refusal}
+use Rattle.client_core.specs.Calls.{Hello as hello_call, Sync as sync_call, Ask as ask_call}
 use Rattle.client_core.specs.Feeding.{fault_of}
 use Rattle.client_core.specs.Replies.{event_read, reaction_to_reply}
 use Rattle.pir_world.specs.declared.steps.Step.{Step}
@@ -127,11 +127,11 @@ module _ (x : Setting) (seeds : List (List ℕ)) (s : State) (inv : WorldInvaria
   added : (es : List Entry) → EachAfter IsServedFresh s.log es → EachAfter IsServedFresh [] (s.log ++ es)
   added es p = each_more IsServedFresh [] s.log es so_far p
 
-  call_served : (k : ℕ) (w : Want) (l : Link) (f : Option CallFault) → EachAfter IsServedFresh [] (call_at s k w l f).log
+  call_served : (k : ℕ) (w : ClientCall) (l : Link) (f : Option CallFault) → EachAfter IsServedFresh [] (call_at s k w l f).log
   call_served k w l (Some fault) = added _ (tt, tt)
   call_served k w l None = added _ (tt, (tt, tt))
 
-  called_served : (w : Want) (k : ℕ) (o : Option Link) → EachAfter IsServedFresh [] (called_at s w k o).log
+  called_served : (w : ClientCall) (k : ℕ) (o : Option Link) → EachAfter IsServedFresh [] (called_at s w k o).log
   called_served w k None = so_far
   called_served w k (Some l) = call_served k w l (refusal w l.client)
 
@@ -170,9 +170,9 @@ module _ (x : Setting) (seeds : List (List ℕ)) (s : State) (inv : WorldInvaria
   after_served short (Edit i bytes) = edited i bytes
   after_served short (Append bytes) = appended bytes
   after_served short Publish = published_served
-  after_served short (Hello k) = called_served (want_hello reader_key) k (slice_get s.links k)
-  after_served short (Sync k scheme) = called_served (want_sync scheme) k (slice_get s.links k)
-  after_served short (Ask k i) = called_served (want_ask i) k (slice_get s.links k)
+  after_served short (Hello k) = called_served (hello_call reader_key) k (slice_get s.links k)
+  after_served short (Sync k scheme) = called_served (sync_call scheme) k (slice_get s.links k)
+  after_served short (Ask k i) = called_served (ask_call i) k (slice_get s.links k)
   after_served short (ToServer k most) = delivered short k most (slice_get s.links k) refl
   after_served short (ToClient k most) = reported k most (slice_get s.links k)
 

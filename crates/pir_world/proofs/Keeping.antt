@@ -8,8 +8,8 @@ use Rattle.pir_schemes.specs.Laws.{RetrievalGivesTheRecord}
 use Rattle.version_store.specs.Histories.{History, current_version, after_edit, published, after_append}
 use Rattle.server_core.specs.Serving.{Setting}
 use Rattle.client_core.specs.declared.state.CallFault.{CallFault}
-use Rattle.client_core.specs.Calls.{Want, refusal, call_frame}
-use Rattle.client_core.specs.Calls.{Hello as want_hello, Sync as want_sync, Ask as want_ask}
+use Rattle.client_core.specs.Calls.{ClientCall, refusal, call_frame}
+use Rattle.client_core.specs.Calls.{Hello as hello_call, Sync as sync_call, Ask as ask_call}
 use Rattle.frame_codec.proofs.Runs.{all_append}
 use Rattle.pir_world.specs.declared.steps.Step.{Step}
 use Rattle.pir_world.specs.declared.steps.Step.TheVariants.{Edit, Append, Publish, Hello, Sync, Ask, ToServer, ToClient}
@@ -64,12 +64,12 @@ module _ (x : Setting) (seeds : List (List ℕ)) (s : State) (inv : WorldInvaria
   }
 
   -- a call that is accepted
-  abbrev Accepted : ℕ → Want → Link → Type 0
+  abbrev Accepted : ℕ → ClientCall → Link → Type 0
   Accepted k w l =
       let m = link_called w l in
       LinkInvariant x s.history (seed_of seeds k) m × Logged x seeds s.history k m s.log (Called k w None ∷ Sent k (call_frame m.client m.client.call) ∷ [])
 
-  call_inv : (k : ℕ) (w : Want) (l : Link) (f : Option CallFault) → slice_get s.links k ≡ Some l → refusal w l.client ≡ f
+  call_inv : (k : ℕ) (w : ClientCall) (l : Link) (f : Option CallFault) → slice_get s.links k ≡ Some l → refusal w l.client ≡ f
       → (refusal w l.client ≡ None → Accepted k w l) → WorldInvariant x seeds (call_at s k w l f)
   call_inv k w l (Some fault) at e called =
       at_one k l l s.history (Called k w (Some fault) ∷ []) at refl (inv.links k l at) (tt, tt)
@@ -77,7 +77,7 @@ module _ (x : Setting) (seeds : List (List ℕ)) (s : State) (inv : WorldInvaria
       (λ j ne. (tt, tt))
   call_inv k w l None at e called = let c = called e in at_one k l (link_called w l) s.history _ at refl c.0 (tt, (tt, tt)) c.1 (λ j ne. (ne, (ne, tt)))
 
-  called_inv : (w : Want) (k : ℕ) (o : Option Link) → slice_get s.links k ≡ o
+  called_inv : (w : ClientCall) (k : ℕ) (o : Option Link) → slice_get s.links k ≡ o
       → ((l : Link) → LinkInvariant x s.history (seed_of seeds k) l → LogInvariant x s.history (seed_of seeds k) k l s.log → refusal w l.client ≡ None → Accepted k w l) →
       WorldInvariant x seeds (called_at s w k o)
   called_inv w k None at called = inv
@@ -135,13 +135,13 @@ module _ (x : Setting) (seeds : List (List ℕ)) (s : State) (inv : WorldInvaria
   after_inv law short (Append bytes) small = append_inv bytes small
   after_inv law short Publish small = publish_inv
   after_inv law short (Hello k) small =
-      called_inv (want_hello reader_key) k (slice_get s.links k) refl (λ l i g e. let n = called_hello x s.history (seed_of seeds k) l inv.history i e in
+      called_inv (hello_call reader_key) k (slice_get s.links k) refl (λ l i g e. let n = called_hello x s.history (seed_of seeds k) l inv.history i e in
       (n, logged_hello x seeds s.history k l s.log g n))
   after_inv law short (Sync k scheme) small =
-      called_inv (want_sync scheme) k (slice_get s.links k) refl (λ l i g e. let n = called_sync x s.history (seed_of seeds k) l inv.history i scheme e in
+      called_inv (sync_call scheme) k (slice_get s.links k) refl (λ l i g e. let n = called_sync x s.history (seed_of seeds k) l inv.history i scheme e in
       (n, logged_sync x seeds s.history k l s.log g scheme n))
   after_inv law short (Ask k j) small =
-      called_inv (want_ask j) k (slice_get s.links k) refl (λ l i g e. let n = called_ask x s.history (seed_of seeds k) l inv.history i j e in
+      called_inv (ask_call j) k (slice_get s.links k) refl (λ l i g e. let n = called_ask x s.history (seed_of seeds k) l inv.history i j e in
       (n, logged_ask x seeds s.history k l s.log g j n))
   after_inv law short (ToServer k most) small = served_at_inv short k most (slice_get s.links k) refl
   after_inv law short (ToClient k most) small = reported_at_inv law k most (slice_get s.links k) refl

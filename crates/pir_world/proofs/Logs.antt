@@ -18,7 +18,7 @@ use Rattle.client_core.specs.declared.state.Event.{Event}
 use Rattle.client_core.specs.declared.state.Event.TheVariants.{Synced}
 use Rattle.client_core.specs.declared.state.Reaction.{Reaction}
 use Rattle.client_core.specs.declared.state.Reaction.TheVariants.{Asks, Reports, Fails}
-use Rattle.client_core.specs.Calls.{Ask as want_ask}
+use Rattle.client_core.specs.Calls.{Ask as ask_call}
 use Rattle.client_core.specs.Replies.{reaction_to_reply}
 use Rattle.client_core.specs.Feeding.{fault_of}
 use Rattle.pir_world.specs.declared.steps.Outcome.TheVariants.{Reported}
@@ -55,8 +55,8 @@ all_with_earlier P log p before after e same = earlier_of P [] log p before afte
 -- ---- entries beside a client's
 
 aside_ask : (k : ℕ) (e : Entry) → IsAside k e → is_ask k e ≡ false
-aside_ask k (Called j (want_ask i) None) p = ne_eqb j k p
-aside_ask k (Called j (want_ask i) (Some fault)) p = refl
+aside_ask k (Called j (ask_call i) None) p = ne_eqb j k p
+aside_ask k (Called j (ask_call i) (Some fault)) p = refl
 aside_ask k (Called j want refusal) p = refl
 aside_ask k (Sent j f) p = refl
 aside_ask k (Served j f now reply) p = refl

@@ -23,7 +23,7 @@ use Rattle.server_core.specs.Serving.{setting_of}
 use Rattle.server_core.specs.Sessions.{Session, new_session}
 use Rattle.pir_world.specs.declared.steps.Outcome.{Outcome}
 use Rattle.pir_world.specs.Runs.{silent}
-use Rattle.pir_world.specs.Sides.{Side, Carries, EndIs, Matched, IsParts, fresh_side}
+use Rattle.pir_world.specs.Sides.{Side, Carries, EndIs, Matched, Implements, fresh_side}
 use Rattle.pir_world.specs.Worlds.{Kept, IsRunOf}
 use Rattle.pir_world.proofs.Keeping.{run_inv}
 use Rattle.pir_world.proofs.Later.{records_at}
@@ -108,7 +108,7 @@ fresh_matched wide (s ∷ seeds) (suc k) o e = fresh_matched wide seeds k o (λ 
 
 pub opening_parts : (h : Header) (bytes : List ℕ) (seeds : List (List ℕ)) (core : Core) (ends : List Side) (os : List Outcome) → core.store ≡ held_of h bytes →
     StandsFor core.store (opened h.version (held h bytes)) → ends ≡ map (fresh_side (is_wide h.form)) seeds
-    → ((id : ℕ) → id < length seeds → session_of core.sessions id ≡ Some new_session) → os ≡ [] → IsParts (setting_in h) core ends os (opening h bytes seeds)
+    → ((id : ℕ) → id < length seeds → session_of core.sessions id ≡ Some new_session) → os ≡ [] → Implements (setting_in h) core ends os (opening h bytes seeds)
 opening_parts h bytes seeds core ends os held stands e at none = record {
   setting_is = ap (λ (s : StoreState). setting_of s) held;
   store_is = stands;
@@ -117,7 +117,7 @@ opening_parts h bytes seeds core ends os held stands e at none = record {
 }
 
 pub opening_run : (h : Header) (bytes : List ℕ) (seeds : List (List ℕ)) (w : Kept) → IsOpening h bytes → w.header ≡ h → w.records ≡ bytes → w.seeds ≡ seeds →
-    w.steps ≡ [] → IsParts (setting_in h) w.core w.ends w.outcomes (opening h bytes seeds)
+    w.steps ≡ [] → Implements (setting_in h) w.core w.ends w.outcomes (opening h bytes seeds)
     → IsRunOf w (opening h bytes seeds)
 opening_run h bytes seeds w o a b d e parts = record {
   opens = rw (a, b) o;

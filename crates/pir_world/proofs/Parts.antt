@@ -20,7 +20,7 @@ use Rattle.client_core.specs.declared.state.Call.TheVariants as call
 use Rattle.client_core.specs.declared.state.Event.{Event}
 use Rattle.client_core.specs.declared.state.Reaction.{Reaction}
 use Rattle.client_core.specs.declared.state.Reaction.TheVariants.{Asks, Reports, Fails}
-use Rattle.client_core.specs.Calls.{Want, Accepts, refusal, state_after_call, call_frame}
+use Rattle.client_core.specs.Calls.{ClientCall, Accepts, refusal, state_after_call, call_frame}
 use Rattle.client_core.specs.Replies.{reaction_to_reply}
 use Rattle.client_core.specs.Feeding.{takes_all, events_of, fault_of}
 use Rattle.frame_codec.specs.Frames.{IsFrame, encoding}
@@ -30,7 +30,7 @@ use Rattle.pir_world.specs.Runs.{State, Link, Turn, turns, turn_more, sent, with
 use Rattle.pir_schemes.specs.Laws.{RetrievalGivesTheRecord}
 use Rattle.pir_world.specs.Versions.{seed_of}
 use Rattle.pir_world.specs.Invariants.{WorldInvariant, LinkInvariant}
-use Rattle.pir_world.specs.Sides.{Side, Carries, EndIs, TakesDelivery, ServesDelivery, MakesCall, Matched, IsParts, prefix}
+use Rattle.pir_world.specs.Sides.{Side, Carries, EndIs, TakesDelivery, ServesDelivery, MakesCall, Matched, Implements, prefix}
 use Rattle.pir_world.proofs.Later.{get_same, get_other}
 use Rattle.pir_world.proofs.Wires.{IsFew, split_few}
 use Rattle.frame_codec.specs.Streams.{IsFrameOf}
@@ -55,7 +55,7 @@ met_at wide e None l p = absurd p
 met_at wide e (Some y) None p = absurd p
 met_at wide e (Some y) (Some m) p = (y, m, refl, refl, p)
 
-pub met : (x : Setting) (core : Core) (ends : List Side) (os : List Outcome) (s : State) (k : ℕ) (e : Side) → IsParts x core ends os s →
+pub met : (x : Setting) (core : Core) (ends : List Side) (os : List Outcome) (s : State) (k : ℕ) (e : Side) → Implements x core ends os s →
     slice_get ends k ≡ Some e → Met x core k e s
 met x core ends os s k e p at =
     let P : Option Side → Type 0 = λ o. Matched (is_wide_setting x) o (session_of core.sessions k) (slice_get s.links k) in
@@ -64,7 +64,7 @@ met x core ends os s k e p at =
 
 -- one end, its session and its link are replaced
 one_replaced : (x : Setting) (core core2 : Core) (ends : List Side) (os : List Outcome) (s : State) (k : ℕ) (e e2 : Side) (l l2 : Link) (y2 : Session) →
-    IsParts x core ends os s → slice_get ends k ≡ Some e → slice_get s.links k ≡ Some l
+    Implements x core ends os s → slice_get ends k ≡ Some e → slice_get s.links k ≡ Some l
     → session_of core2.sessions k ≡ Some y2 → ((other : ℕ) → other ≢ k → session_of core2.sessions other ≡ session_of core.sessions other) → EndIs (is_wide_setting x) e2 y2 l2
     → (j : ℕ) → Matched (is_wide_setting x) (slice_get (slice_set ends k e2) j) (session_of core2.sessions j) (slice_get (slice_set s.links k l2) j)
 one_replaced x core core2 ends os s k e e2 l l2 y2 p at lat yat others i j = elim (cases_eq j k) [
@@ -119,12 +119,12 @@ serves_silent x short k t (f ∷ fs) e = serves_silent x short k (turn_more x sh
 
 -- ---- the three kinds of step at a client
 
-module _ (x : Setting) (core : Core) (ends : List Side) (os : List Outcome) (s : State) (k : ℕ) (e e2 : Side) (p : IsParts x core ends os s)
+module _ (x : Setting) (core : Core) (ends : List Side) (os : List Outcome) (s : State) (k : ℕ) (e e2 : Side) (p : Implements x core ends os s)
     (at : slice_get ends k ≡ Some e) where
   pub parts_reported : RetrievalGivesTheRecord → (seeds : List (List ℕ)) (most : ℕ) (out : List ℕ) (events : List Event) (fault : Option ClientFault) →
       WorldInvariant x seeds s → TakesDelivery most e out events fault e2
       → (fault ≡ Some Memory) ⊎ ((fault ≡ None)
-      × IsParts x core (slice_set ends k e2) (os ++ map (Reported k) events) (reported_at s k most (slice_get s.links k)))
+      × Implements x core (slice_set ends k e2) (os ++ map (Reported k) events) (reported_at s k most (slice_get s.links k)))
   parts_reported law seeds most out events fault inv d =
       let m = met x core ends os s k e p at in
       let i = inv.links k m.link m.link_is in
@@ -134,7 +134,7 @@ module _ (x : Setting) (core : Core) (ends : List Side) (os : List Outcome) (s :
       ]
     where
       go : (m : Met x core k e s) → LinkInvariant x s.history (seed_of seeds k) m.link → EndReported (is_wide_setting x) e2 m.session m.link most events →
-          IsParts x core (slice_set ends k e2) (os ++ map (Reported k) events) (reported_at s k most (slice_get s.links k))
+          Implements x core (slice_set ends k e2) (os ++ map (Reported k) events) (reported_at s k most (slice_get s.links k))
       go m i t =
           let few = (few_frames x s.history m.link.standing (seed_of seeds k) m.link.client m.link.client.call m.link.up.frames m.link.down.frames i.phase).1 in
           let arrives = few_of_split m.link.down.frames (arrived m.link.down most) _ few (split_few m.link.down most few) in
@@ -153,7 +153,7 @@ module _ (x : Setting) (core : Core) (ends : List Side) (os : List Outcome) (s :
       → ((other : ℕ) → other ≢ k → session_of core2.sessions other ≡ session_of core.sessions other)
       → ((h : History) (session : Session) → StandsFor core.store h → session_of core.sessions k ≡ Some session →
       (then_ : Session) × (session_of core2.sessions k ≡ Some then_) × ServesDelivery most h core.store e session core2.store e2 then_)
-      → (short : Bool) × IsParts x core2 (slice_set ends k e2) os (served_at x short s k most (slice_get s.links k))
+      → (short : Bool) × Implements x core2 (slice_set ends k e2) os (served_at x short s k most (slice_get s.links k))
   parts_served core2 seeds most inv others f =
       let m = met x core ends os s k e p at in
       let r = f s.history m.session p.store_is m.session_is in
@@ -175,7 +175,7 @@ module _ (x : Setting) (core : Core) (ends : List Side) (os : List Outcome) (s :
   refused None = []
   refused (Some fault) = CallRefused k fault ∷ []
 
-  accepted_end : (w : Want) (session : Session) (l : Link) → EndIs (is_wide_setting x) e session l → accepts_profile x.plan l.client.profile ≡ true → (bytes : List ℕ) → Accepts e.client.state w e2.client.state bytes →
+  accepted_end : (w : ClientCall) (session : Session) (l : Link) → EndIs (is_wide_setting x) e session l → accepts_profile x.plan l.client.profile ≡ true → (bytes : List ℕ) → Accepts e.client.state w e2.client.state bytes →
       e2.client.reader ≡ e.client.reader → e2.up ≡ e.up ++ bytes → e2.down ≡ e.down
       → (refusal w l.client ≡ None) × EndIs (is_wide_setting x) e2 session (link_called w l)
   accepted_end w session l i profile bytes a reader up down =
@@ -199,8 +199,8 @@ module _ (x : Setting) (core : Core) (ends : List Side) (os : List Outcome) (s :
         },
       )
 
-  pub parts_called : (seeds : List (List ℕ)) → WorldInvariant x seeds s → (w : Want) (o : Option CallFault) → MakesCall w e o e2 →
-      IsParts x core (slice_set ends k e2) (os ++ refused o) (called_at s w k (slice_get s.links k))
+  pub parts_called : (seeds : List (List ℕ)) → WorldInvariant x seeds s → (w : ClientCall) (o : Option CallFault) → MakesCall w e o e2 →
+      Implements x core (slice_set ends k e2) (os ++ refused o) (called_at s w k (slice_get s.links k))
   parts_called seeds inv w None c =
       let m = met x core ends os s k e p at in
       let t = accepted_end w m.session m.link m.end_is (inv.links k m.link m.link_is).profile_is c.0 c.1 c.2 c.3 c.4 in
@@ -224,9 +224,9 @@ module _ (x : Setting) (core : Core) (ends : List Side) (os : List Outcome) (s :
 
 -- ---- the publisher's steps
 
-pub parts_plain : (x : Setting) (core core2 : Core) (ends : List Side) (os : List Outcome) (s : State) (h : History) (o : Outcome) → IsParts x core ends os s →
+pub parts_plain : (x : Setting) (core core2 : Core) (ends : List Side) (os : List Outcome) (s : State) (h : History) (o : Outcome) → Implements x core ends os s →
     setting_of core2.store ≡ x → StandsFor core2.store h → core2.sessions ≡ core.sessions
-    → IsParts x core2 ends (os ++ o ∷ []) (with_history s h o)
+    → Implements x core2 ends (os ++ o ∷ []) (with_history s h o)
 parts_plain x core core2 ends os s h o p setting stands same = record {
   setting_is = setting;
   store_is = stands;

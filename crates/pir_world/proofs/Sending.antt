@@ -11,7 +11,7 @@ use Rattle.server_core.specs.Sessions.{Session, Fed, new_session}
 use Rattle.pir_world.specs.declared.steps.Step.{Step}
 use Rattle.pir_world.specs.declared.steps.Outcome.{Outcome}
 use Rattle.pir_world.specs.Runs.{State, Steps, FitsStep, state_after}
-use Rattle.pir_world.specs.Sides.{Side, IsParts, ServesDelivery, fresh_side}
+use Rattle.pir_world.specs.Sides.{Side, Implements, ServesDelivery, fresh_side}
 use Rattle.pir_world.proofs.Keeping.{stepped}
 
 -- what holds of a good answer
@@ -46,8 +46,8 @@ on_map (Err x) P Q f p = tt
 
 -- a step that was made
 pub made_step : (x : Setting) (short : Bool) (s : State) (given step : Step) (core : Core) (ends : List Side) (os : List Outcome) → given ≡ step →
-    FitsStep step → IsParts x core ends os (state_after x short s step)
-    → (t : State) × Steps x s given t × IsParts x core ends os t
+    FitsStep step → Implements x core ends os (state_after x short s step)
+    → (t : State) × Steps x s given t × Implements x core ends os t
 made_step x short s given step core ends os e fits p =
     (state_after x short s step, subst (λ (y : Step). Steps x s y (state_after x short s step)) (sym e) (stepped x short s step fits), p)
 

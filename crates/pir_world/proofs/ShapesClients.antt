@@ -1,4 +1,5 @@
--- What clients of one outline do with calls that differ in the index alone, and with replies that differ in words alone.
+-- What clients of one outline do with calls that differ in the index alone, and with replies that
+-- differ in words alone.
 use Rattle.std.proofs.Common.{◌≡◌, ℕ, List, [], ◌∷◌, ◌++◌, length, Bool, true, false, cond, Option, Some, None, refl, sym, ap, ◌∙◌, ◌⊎◌, inl, inr}
 use Rattle.std.specs.Prelude.{map, ◌==◌, ◌&&◌, not}
 use Rattle.std.proofs.lemmas.List.{append-nil}
@@ -17,10 +18,10 @@ use Rattle.client_core.specs.declared.state.Call.{Call}
 use Rattle.client_core.specs.declared.state.Call.TheVariants as call
 use Rattle.digit_pack.specs.Layout.{is_wide}
 use Rattle.client_core.specs.States.{is_wide_client, shape_known, known_version, scheme_held, delta_base}
-use Rattle.client_core.specs.Calls.{call_since, Want, Hello, Sync, Ask, sync_begun, state_after_call, call_frame, call_words}
+use Rattle.client_core.specs.Calls.{call_since, ClientCall, Hello, Sync, Ask, sync_begun, state_after_call, call_frame, call_words}
 use Rattle.client_core.specs.Replies.{
   plan_given,
-  Taken,
+  AfterReply,
   reaction_to_reply,
   is_accepted_welcome,
   takes_welcome,
@@ -46,7 +47,7 @@ use Rattle.client_core.specs.Replies.{
   takes_refused,
 }
 use Rattle.client_core.specs.Feeding.{sends_of}
-use Rattle.client_core.specs.Laws.{Taken as Reply, Accepted}
+use Rattle.client_core.specs.Laws.{Replied as Reply, Accepted}
 use Rattle.client_core.specs.Shapes.{
   FrameShape,
   shape_of_frame,
@@ -72,15 +73,15 @@ use Rattle.pir_world.proofs.ShapesFrames.{IsFrameLike, same_frame, same_blank}
 -- ---- calls
 
 -- the same call, or both times an ask
-abbrev pub IsWantLike : Want → Want → Type 0
-IsWantLike (Ask i) w = (j : ℕ) × (w ≡ Ask j)
-IsWantLike v w = w ≡ v
+abbrev pub IsCallLike : ClientCall → ClientCall → Type 0
+IsCallLike (Ask i) w = (j : ℕ) × (w ≡ Ask j)
+IsCallLike v w = w ≡ v
 
-pub same_want : (v w : Want) → IsWantLike v w → blank_call v ≡ blank_call w
+pub same_want : (v w : ClientCall) → IsCallLike v w → blank_call v ≡ blank_call w
 same_want (Ask i) w e = ap blank_call (sym e.1)
 same_want v w e = ap blank_call (sym e)
 
-pub called_outline : (c d : ClientState) (v w : Want) → outline c ≡ outline d → IsWantLike v w → outline (state_after_call v c) ≡ outline (state_after_call w d)
+pub called_outline : (c d : ClientState) (v w : ClientCall) → outline c ≡ outline d → IsCallLike v w → outline (state_after_call v c) ≡ outline (state_after_call w d)
 called_outline c d v w a e =
     no_index.outline_is c (Accepted v)
     ∙ ap (λ (o : Outline). outline_after_call (blank_call v) o) a
@@ -116,13 +117,13 @@ begun_frame (Some since) s c = since_frame (is_wide_client c) since s c.known (s
 begun_frame None s c = refl
 
 -- a call that a client of a run makes
-abbrev pub IsReaders : Want → Type 0
+abbrev pub IsReaders : ClientCall → Type 0
 IsReaders (Hello key) = Unit {0}
 IsReaders (Sync scheme) = Unit {0}
 IsReaders (Ask i) = Unit {0}
 IsReaders _ = ⊥
 
-pub call_frame_like : (c d : ClientState) (v w : Want) → IsReaders v → outline c ≡ outline d → IsWantLike v w
+pub call_frame_like : (c d : ClientState) (v w : ClientCall) → IsReaders v → outline c ≡ outline d → IsCallLike v w
     → IsFrameLike (call_frame (state_after_call v c) (state_after_call v c).call) (call_frame (state_after_call w d) (state_after_call w d).call)
 call_frame_like c d v w r a e = made v w r e
   where
@@ -141,7 +142,7 @@ call_frame_like c d v w r a e = made v w r e
     other_words : ℕ → List ℕ
     other_words j = call_words d.known (scheme_held d.hint) d.seed d.number j
 
-    made : (v w : Want) → IsReaders v → IsWantLike v w
+    made : (v w : ClientCall) → IsReaders v → IsCallLike v w
         → IsFrameLike (call_frame (state_after_call v c) (state_after_call v c).call) (call_frame (state_after_call w d) (state_after_call w d).call)
     made (Hello key) w r e = rw e (ap (λ (o : Outline). frame.Hello o.profile key) (sym a))
     made (Sync s) w r e =
@@ -162,12 +163,12 @@ call_frame_like c d v w r a e = made v w r e
 -- ---- replies
 
 -- the frame sent is the one for the part that is then awaited
-abbrev Sends : Taken → Type 0
+abbrev Sends : AfterReply → Type 0
 Sends t =
     (sends_of t.reaction ≡ [])
     ⊎ ((s : Scheme) × (v : ℕ) × (p : ℕ) × (t.state.call ≡ call.Sync s v p) × (sends_of t.reaction ≡ frame.HintAsk (scheme_byte s) v p ∷ []))
 
-either : (b : Bool) (t u : Taken) → Sends t → Sends u → Sends (cond b t u)
+either : (b : Bool) (t u : AfterReply) → Sends t → Sends u → Sends (cond b t u)
 either true t u a b = a
 either false t u a b = b
 

@@ -1,4 +1,5 @@
--- Links and states that differ in indices and words alone, and what calls and deliveries make of them.
+-- Links and states that differ in indices and words alone, and what calls and deliveries make of
+-- them.
 use Rattle.std.proofs.Common.{◌≡◌, ℕ, List, [], ◌∷◌, Bool, true, false, cond, Option, Some, None, refl, sym, ap, subst, ◌∙◌, inl, inr}
 use Rattle.std.specs.Prelude.{map, slice_get, slice_set, is_some}
 use Rattle.std.proofs.lemmas.Bool.{cases_eq}
@@ -12,7 +13,7 @@ use Rattle.client_core.specs.declared.state.CallFault.{CallFault}
 use Rattle.client_core.specs.declared.state.Event.{Event}
 use Rattle.client_core.specs.declared.state.Reaction.{Reaction}
 use Rattle.client_core.specs.declared.state.Reaction.TheVariants.{Asks, Reports, Fails}
-use Rattle.client_core.specs.Calls.{Want, refusal}
+use Rattle.client_core.specs.Calls.{ClientCall, refusal}
 use Rattle.client_core.specs.Replies.{reaction_to_reply}
 use Rattle.client_core.specs.Feeding.{sends_of, takes_all, fault_of}
 use Rattle.client_core.specs.Shapes.{outline}
@@ -43,7 +44,7 @@ use Rattle.pir_world.proofs.Later.{get_same, get_other}
 use Rattle.pir_world.proofs.Wires.{IsFew, Split, split_few}
 use Rattle.pir_world.proofs.ShapesFrames.{IsFrameLike, same_frame, same_shape, AreFramesLike, IsWireLike, sent_like, arrived_like, beyond_like}
 use Rattle.pir_world.proofs.ShapesServed.{equal_append, IsTurnLike, turns_like}
-use Rattle.pir_world.proofs.ShapesClients.{IsWantLike, IsReaders, called_outline, call_frame_like, replied_outline, replied_sends}
+use Rattle.pir_world.proofs.ShapesClients.{IsCallLike, IsReaders, called_outline, call_frame_like, replied_outline, replied_sends}
 
 -- ---- states
 
@@ -91,7 +92,7 @@ state_itself s = record { history = refl; links = λ k. both_itself (slice_get s
 
 -- ---- what a client writes into the log
 
-called_equal : (k : ℕ) (v w : Want) (f g : Frame) → IsFrameLike f g → HaveEqualShapes (Called k v None ∷ Sent k f ∷ []) (Called k w None ∷ Sent k g ∷ [])
+called_equal : (k : ℕ) (v w : ClientCall) (f g : Frame) → IsFrameLike f g → HaveEqualShapes (Called k v None ∷ Sent k f ∷ []) (Called k w None ∷ Sent k g ∷ [])
 called_equal k v w f g e = record { sent = λ j. rw (same_shape f g e) refl; replies = λ j. refl; refusals = λ j. refl }
 
 reports_sent : (j k : ℕ) (q : Call) (f : Frame) (e : Event) → sent_shapes j (reports k q f e ∷ []) ≡ []
@@ -174,7 +175,7 @@ few_arrive w most few = of_split (split_few w most few)
 -- ---- a link's steps
 
 -- at two links whose clients differ in indices and words alone, two calls are refused alike
-abbrev pub IsRefusedLike : Want → Want → Option Link → Option Link → Type 0
+abbrev pub IsRefusedLike : ClientCall → ClientCall → Option Link → Option Link → Type 0
 IsRefusedLike v w o o2 = (l m : Link) → o ≡ Some l → o2 ≡ Some m → outline l.client ≡ outline m.client → refusal v l.client ≡ refusal w m.client
 
 module _ (s t : State) (a : IsStateLike s t) (k : ℕ) where
@@ -187,8 +188,8 @@ module _ (s t : State) (a : IsStateLike s t) (k : ℕ) where
     logs = equal_append s.log t.log es gs a.logs logs;
   }
 
-  call_like : (v w : Want) (l m : Link) (f : Option CallFault)
-      → slice_get s.links k ≡ Some l → slice_get t.links k ≡ Some m → IsLinkLike l m → IsReaders v → IsWantLike v w
+  call_like : (v w : ClientCall) (l m : Link) (f : Option CallFault)
+      → slice_get s.links k ≡ Some l → slice_get t.links k ≡ Some m → IsLinkLike l m → IsReaders v → IsCallLike v w
       → IsStateLike (call_at s k v l f) (call_at t k w m f)
   call_like v w l m (Some fault) at at2 b r e = replaced l m l m s.history t.history _ _ at at2 a.history b (record { sent = λ j. refl; replies = λ j. refl; refusals = λ j. refl })
   call_like v w l m None at at2 b r e =
@@ -202,7 +203,7 @@ module _ (s t : State) (a : IsStateLike s t) (k : ℕ) where
       })
       (called_equal k v w _ _ f)
 
-  pub called_like : (v w : Want) (o o2 : Option Link) → slice_get s.links k ≡ o → slice_get t.links k ≡ o2 → AreBothLike o o2 → IsReaders v → IsWantLike v w
+  pub called_like : (v w : ClientCall) (o o2 : Option Link) → slice_get s.links k ≡ o → slice_get t.links k ≡ o2 → AreBothLike o o2 → IsReaders v → IsCallLike v w
       → IsRefusedLike v w o o2
       → IsStateLike (called_at s v k o) (called_at t w k o2)
   called_like v w None None at at2 b r e same = a

@@ -8,8 +8,8 @@ use Rattle.pir_schemes.specs.Laws.{RetrievalGivesTheRecord}
 use Rattle.version_store.specs.Histories.{History, current_version}
 use Rattle.server_core.specs.Serving.{Setting}
 use Rattle.client_core.specs.declared.state.CallFault.{CallFault}
-use Rattle.client_core.specs.Calls.{Want, refusal}
-use Rattle.client_core.specs.Calls.{Hello as want_hello, Sync as want_sync, Ask as want_ask}
+use Rattle.client_core.specs.Calls.{ClientCall, refusal}
+use Rattle.client_core.specs.Calls.{Hello as hello_call, Sync as sync_call, Ask as ask_call}
 use Rattle.pir_world.specs.declared.steps.Step.{Step}
 use Rattle.pir_world.specs.declared.steps.Step.TheVariants.{Edit, Append, Publish, Hello, Sync, Ask, ToServer, ToClient}
 use Rattle.pir_world.specs.declared.steps.Outcome.{Outcome}
@@ -47,7 +47,7 @@ use Rattle.pir_world.proofs.Opening.{opening_inv}
 use Rattle.pir_world.proofs.Wires.{IsFew}
 use Rattle.pir_world.proofs.ShapesServed.{equal_append, all_first, all_last, turns_same}
 use Rattle.client_core.proofs.ShapeLaws.{no_index, same_ask}
-use Rattle.pir_world.proofs.ShapesClients.{IsWantLike, IsReaders}
+use Rattle.pir_world.proofs.ShapesClients.{IsCallLike, IsReaders}
 use Rattle.pir_world.proofs.ShapesLinks.{IsStateLike, IsRefusedLike, state_itself, called_like, served_like, reported_like}
 use Rattle.digit_pack.specs.Layout.{is_layout}
 
@@ -90,14 +90,14 @@ module _ (x : Setting) (s t : State) (a : IsStateLike s t) where
       (either (current_version s.history + 1 == 2 ^ 64) _ _ _ _ (history_like _ _) (history_like _ _))
       (history_like _ _))
 
-  calls_like : (k : ℕ) (v w : Want) → IsReaders v → IsWantLike v w
+  calls_like : (k : ℕ) (v w : ClientCall) → IsReaders v → IsCallLike v w
       → IsRefusedLike v w (slice_get s.links k) (slice_get t.links k)
       → IsStateLike (called_at s v k (slice_get s.links k)) (called_at t w k (slice_get t.links k))
   calls_like k v w r e same = called_like s t a k v w (slice_get s.links k) (slice_get t.links k) refl refl (a.links k) r e same
 
   -- asks of one client are refused alike, where none of another index is refused for it
   asks_refused : (k i j : ℕ) → AskIsWithin s (Ask k i) (Ask k j) → AskIsWithin t (Ask k j) (Ask k i)
-      → IsRefusedLike (want_ask i) (want_ask j) (slice_get s.links k) (slice_get t.links k)
+      → IsRefusedLike (ask_call i) (ask_call j) (slice_get s.links k) (slice_get t.links k)
   asks_refused k i j b b2 l m at at2 alike =
       same_ask l.client m.client i j alike
       (λ n. b (λ e. n (let same : Ask k j ≡ Ask k i = e in cc)) l at)
@@ -108,14 +108,14 @@ module _ (x : Setting) (s t : State) (a : IsStateLike s t) where
   after_like seeds inv (Edit i bytes) other e b b2 = rw e (edit_like i bytes)
   after_like seeds inv (Append bytes) other e b b2 = rw e (append_like bytes)
   after_like seeds inv Publish other e b b2 = rw e publish_like
-  after_like seeds inv (Hello k) other e b b2 = rw e (calls_like k (want_hello reader_key) (want_hello reader_key) tt refl
-      (λ l m at at2 alike. no_index.same_refusal l.client m.client (want_hello reader_key) (want_hello reader_key) tt tt alike refl))
-  after_like seeds inv (Sync k scheme) other e b b2 = rw e (calls_like k (want_sync scheme) (want_sync scheme) tt refl
-      (λ l m at at2 alike. no_index.same_refusal l.client m.client (want_sync scheme) (want_sync scheme) tt tt alike refl))
+  after_like seeds inv (Hello k) other e b b2 = rw e (calls_like k (hello_call reader_key) (hello_call reader_key) tt refl
+      (λ l m at at2 alike. no_index.same_refusal l.client m.client (hello_call reader_key) (hello_call reader_key) tt tt alike refl))
+  after_like seeds inv (Sync k scheme) other e b b2 = rw e (calls_like k (sync_call scheme) (sync_call scheme) tt refl
+      (λ l m at at2 alike. no_index.same_refusal l.client m.client (sync_call scheme) (sync_call scheme) tt tt alike refl))
   after_like seeds inv (Ask k i) other e b b2 =
       let P : Step → Type 0 = λ o. AskIsWithin s (Ask k i) o → AskIsWithin t o (Ask k i)
       → IsStateLike (state_after x false s (Ask k i)) (state_after x false t o) in
-      subst P (sym e.1) (λ b3 b4. calls_like k (want_ask i) (want_ask e.0) tt (e.0, refl) (asks_refused k i e.0 b3 b4)) b b2
+      subst P (sym e.1) (λ b3 b4. calls_like k (ask_call i) (ask_call e.0) tt (e.0, refl) (asks_refused k i e.0 b3 b4)) b b2
   after_like seeds inv (ToServer k most) other e b b2 = rw e (served_like s t a k x most (slice_get s.links k) (slice_get t.links k) refl refl (a.links k))
   after_like seeds inv (ToClient k most) other e b b2 = rw e (reported_like s t a k most (slice_get s.links k) (slice_get t.links k) refl refl (a.links k) few)
     where
@@ -129,11 +129,11 @@ module _ (x : Setting) (s : State) where
     abbrev IsHeldBefore : State → Type 0
     IsHeldBefore t = AllByRecursion P t.log → AllByRecursion P s.log
 
-    call_kept : (k : ℕ) (w : Want) (l : Link) (f : Option CallFault) → IsHeldBefore (call_at s k w l f)
+    call_kept : (k : ℕ) (w : ClientCall) (l : Link) (f : Option CallFault) → IsHeldBefore (call_at s k w l f)
     call_kept k w l (Some fault) all = all_first P s.log _ all
     call_kept k w l None all = all_first P s.log _ all
 
-    called_kept : (k : ℕ) (w : Want) (o : Option Link) → IsHeldBefore (called_at s w k o)
+    called_kept : (k : ℕ) (w : ClientCall) (o : Option Link) → IsHeldBefore (called_at s w k o)
     called_kept k w None all = all
     called_kept k w (Some l) all = call_kept k w l (refusal w l.client) all
 
@@ -159,9 +159,9 @@ module _ (x : Setting) (s : State) where
         cond_both s.history.marked _ _ IsHeldBefore
         (λ e. cond_both (current_version s.history + 1 == 2 ^ 64) _ _ IsHeldBefore (λ e all. all_first P s.log _ all) (λ e all. all_first P s.log _ all))
         (λ e all. all_first P s.log _ all)
-    step_kept short (Hello k) = called_kept k (want_hello reader_key) (slice_get s.links k)
-    step_kept short (Sync k scheme) = called_kept k (want_sync scheme) (slice_get s.links k)
-    step_kept short (Ask k i) = called_kept k (want_ask i) (slice_get s.links k)
+    step_kept short (Hello k) = called_kept k (hello_call reader_key) (slice_get s.links k)
+    step_kept short (Sync k scheme) = called_kept k (sync_call scheme) (slice_get s.links k)
+    step_kept short (Ask k i) = called_kept k (ask_call i) (slice_get s.links k)
     step_kept short (ToServer k most) = served_kept short k most (slice_get s.links k)
     step_kept short (ToClient k most) = reported_kept k most (slice_get s.links k)
 

@@ -43,7 +43,7 @@ use Rattle.client_core.specs.declared.state.Call.TheVariants.{Idle, Hello, Sync,
 use Rattle.client_core.specs.declared.state.ClientFault.TheVariants.{BadReply}
 use Rattle.client_core.specs.declared.state.Reaction.TheVariants.{Asks}
 use Rattle.client_core.specs.States.{is_layout, shape_known}
-use Rattle.client_core.specs.Replies.{Taken, reaction_to_reply, takes_welcome, takes_part, takes_answer, takes_stale, takes_no_delta, takes_refused, takes_asked_part, more_parts, is_accepted_welcome, is_part, is_answer, is_current, with_current, are_ascending, are_entries, have_slots, is_delta, is_changes, hint_with_entries, event_of, event_read, answered, ended, faulty}
+use Rattle.client_core.specs.Replies.{AfterReply, reaction_to_reply, takes_welcome, takes_part, takes_answer, takes_stale, takes_no_delta, takes_refused, takes_asked_part, more_parts, is_accepted_welcome, is_part, is_answer, is_current, with_current, are_ascending, are_entries, have_slots, is_delta, is_changes, hint_with_entries, event_of, event_read, answered, ended, faulty}
 use Rattle.client_core.specs.declared.state.Event.TheVariants.{Synced}
 use Rattle.client_core.specs.Laws.{rows_of}
 use Rattle.client_core.specs.Feeding.{sends_of, fault_of}
@@ -70,7 +70,8 @@ pub record ClientInv (x : Setting) (h : History) (seed : List ℕ) (st : Standin
   pub hint : HintIs x h c.hint
   pub call : CallIs x h c c.call
 
--- the next part is asked for where the one before came, and the first where what changed can't be given
+-- the next part is asked for where the one before came, and the first where what changed can't be
+-- given
 abbrev pub IsPartBefore : Call → Frame → Scheme → ℕ → ℕ → Type 0
 IsPartBefore (Sync s v p) reply scheme version part =
     (scheme ≡ s) × (version ≡ v) × (part ≡ p + 1) × ((words : List ℕ) × (reply ≡ frame.HintPart (scheme_byte scheme) version p words))
@@ -82,7 +83,7 @@ IsPartBefore _ reply scheme version part = ⊥
 
 -- what a good reply leads to
 pub record IsTaken (x : Setting) (seeds : List (List ℕ)) (k : ℕ) (h : History) (st : Standing) (c : ClientState) (call : Call) (reply : Frame)
-    (t : Taken) : Type 0 where
+    (t : AfterReply) : Type 0 where
   pub client : ClientInv x h (seed_of seeds k) st t.state
   pub no_fault : fault_of t.reaction ≡ None
   pub phase : Phase x h st (seed_of seeds k) t.state t.state.call (sends_of t.reaction) []
@@ -394,7 +395,7 @@ module _ (law : RetrievalGivesTheRecord) (x : Setting) (seeds : List (List ℕ))
       delta_came : IsTaken x seeds k h st c (Delta since) r (reaction_to_reply c r)
       delta_came =
           let P : Frame → Type 0 = λ f. IsTaken x seeds k h st c (Delta since) f (reaction_to_reply c f) in
-          subst P (sym frame_is) (subst (λ (t : Taken). IsTaken x seeds k h st c (Delta since)
+          subst P (sym frame_is) (subst (λ (t : AfterReply). IsTaken x seeds k h st c (Delta since)
           (frame.Delta since d.now (length d.records) (row_list new.cols (rows_of new d.numbers))) t) (sym moved_is) (record {
             client = record {
               seed_is = i.seed_is;
@@ -474,7 +475,7 @@ module _ (law : RetrievalGivesTheRecord) (x : Setting) (seeds : List (List ℕ))
       changes_came : IsTaken x seeds k h st c (Changes since) r (reaction_to_reply c r)
       changes_came =
           let P : Frame → Type 0 = λ f. IsTaken x seeds k h st c (Changes since) f (reaction_to_reply c f) in
-          subst P (sym d.reply_is) (subst (λ (t : Taken). IsTaken x seeds k h st c (Changes since)
+          subst P (sym d.reply_is) (subst (λ (t : AfterReply). IsTaken x seeds k h st c (Changes since)
           (frame.Changes since d.now (length d.records) entries) t) (sym changed_is) (record {
             client = record {
               seed_is = i.seed_is;
@@ -578,7 +579,7 @@ module _ (law : RetrievalGivesTheRecord) (x : Setting) (seeds : List (List ℕ))
       part_came : IsTaken x seeds k h st c (Sync s v p) (frame.HintPart (scheme_byte s) v p (part_words x s r.records p))
           (takes_part (Sync s v p) c (scheme_byte s) v p (part_words x s r.records p))
       part_came =
-          subst (λ (t : Taken). IsTaken x seeds k h st c (Sync s v p) (frame.HintPart (scheme_byte s) v p (part_words x s r.records p)) t) (sym part_step)
+          subst (λ (t : AfterReply). IsTaken x seeds k h st c (Sync s v p) (frame.HintPart (scheme_byte s) v p (part_words x s r.records p)) t) (sym part_step)
           (more (c.parts ++ part_words x s r.records p) (ap (λ (w : List ℕ). w ++ part_words x s r.records p) r.parts_are ∙ parts_more x s r.records p)
           (cases_Bool (length (c.parts ++ part_words x s r.records p) == total)))
 
@@ -637,7 +638,7 @@ module _ (law : RetrievalGivesTheRecord) (x : Setting) (seeds : List (List ℕ))
           (faulty c BadReply)) words_good
 
       answer_came : IsTaken x seeds k h st c (Ask j s v n) (frame.Answer (scheme_byte s) v answer) (takes_answer (Ask j s v n) c (scheme_byte s) v answer)
-      answer_came = subst (λ (t : Taken). IsTaken x seeds k h st c (Ask j s v n) (frame.Answer (scheme_byte s) v answer) t) (sym answer_step) (record {
+      answer_came = subst (λ (t : AfterReply). IsTaken x seeds k h st c (Ask j s v n) (frame.Answer (scheme_byte s) v answer) t) (sym answer_step) (record {
         client = record { seed_is = i.seed_is; profile_is = i.profile_is; alive = i.alive; known = i.known; hint = i.hint; call = tt };
         no_fault = refl;
         phase = (refl, refl);
@@ -648,7 +649,7 @@ module _ (law : RetrievalGivesTheRecord) (x : Setting) (seeds : List (List ℕ))
         next = λ f first e2. tt;
       })
 
-  by_call : (f : Call → Taken) (call : Call) (r : Frame) → c.call ≡ call → IsTaken x seeds k h st c call r (f call) → IsTaken x seeds k h st c call r (f c.call)
+  by_call : (f : Call → AfterReply) (call : Call) (r : Frame) → c.call ≡ call → IsTaken x seeds k h st c call r (f call) → IsTaken x seeds k h st c call r (f c.call)
   by_call f call r e t = subst (λ (a : Call). IsTaken x seeds k h st c call r (f a)) (sym e) t
 
   reply_taken : (call : Call) (r : Frame) → c.call ≡ call → CallIs x h c call → IsReply x h st (seed_of seeds k) call r →

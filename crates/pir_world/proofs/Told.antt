@@ -21,8 +21,8 @@ use Rattle.client_core.specs.declared.state.Event.{Event}
 use Rattle.client_core.specs.declared.state.Reaction.{Reaction}
 use Rattle.client_core.specs.declared.state.Reaction.TheVariants.{Asks, Reports, Fails}
 use Rattle.client_core.specs.States.{is_wide_client, known_version, scheme_held, delta_base}
-use Rattle.client_core.specs.Calls.{Want, call_since, sync_begun, state_after_call, call_frame}
-use Rattle.client_core.specs.Calls.{Hello as want_hello, Sync as want_sync, Ask as want_ask}
+use Rattle.client_core.specs.Calls.{ClientCall, call_since, sync_begun, state_after_call, call_frame}
+use Rattle.client_core.specs.Calls.{Hello as hello_call, Sync as sync_call, Ask as ask_call}
 use Rattle.client_core.specs.Replies.{reaction_to_reply}
 use Rattle.client_core.specs.Feeding.{takes_all, sends_of, fault_of}
 use Rattle.pir_world.specs.Runs.{Wire, Link, Retrieval, Entry, Called, Sent, Served, arrived, beyond, sent, serves, served_or, turn_of, link_called, link_served, link_reported, reports, reacts, reported_by, reader_key}
@@ -193,20 +193,20 @@ module _ (x : Setting) (seeds : List (List ℕ)) (h : History) (k : ℕ) (log fi
 module _ (x : Setting) (seeds : List (List ℕ)) (h : History) (k : ℕ) (l : Link) (log : List Entry) (g : LogInvariant x h (seed_of seeds k) k l log) where
   -- ---- an accepted call
 
-  abbrev called_state : Want → ClientState
+  abbrev called_state : ClientCall → ClientState
   called_state w = state_after_call w l.client
 
-  abbrev called_frame : Want → Frame
+  abbrev called_frame : ClientCall → Frame
   called_frame w = call_frame (called_state w) (called_state w).call
 
   -- what is written down of a call that leads to a state
-  abbrev entries_of : Want → ClientState → List Entry
+  abbrev entries_of : ClientCall → ClientState → List Entry
   entries_of w d = Called k w None ∷ Sent k (call_frame d d.call) ∷ []
 
-  abbrev called_entries : Want → List Entry
+  abbrev called_entries : ClientCall → List Entry
   called_entries w = entries_of w (called_state w)
 
-  sent_called : (w : Want) (d : ClientState) → IsSentLast k (call_frame d d.call) (log ++ Called k w None ∷ []) (log ++ entries_of w d)
+  sent_called : (w : ClientCall) (d : ClientState) → IsSentLast k (call_frame d d.call) (log ++ Called k w None ∷ []) (log ++ entries_of w d)
   sent_called w d = record { since = []; log_is = sym (append_assoc log (Called k w None ∷ []) (Sent k (call_frame d d.call) ∷ [])); aside = tt }
 
   -- its frame alone is on its way
@@ -226,7 +226,7 @@ module _ (x : Setting) (seeds : List (List ℕ)) (h : History) (k : ℕ) (l : Li
   abbrev link_with : ClientState → Link
   link_with d = record { client = d; standing = l.standing; up = sent l.up (call_frame d d.call ∷ []); down = l.down }
 
-  called_log : (w : Want) (d : ClientState)
+  called_log : (w : ClientCall) (d : ClientState)
       → InFlight x h l.standing (seed_of seeds k) d d.call (l.up.frames ++ call_frame d d.call ∷ []) l.down.frames
       → d.number ≡ asks_of k (log ++ entries_of w d) → name_of d.hint ≡ hint_named k (log ++ entries_of w d)
       → IsFrom x h (seed_of seeds k) k d.call (call_frame d d.call) (log ++ Called k w None ∷ [])
@@ -242,61 +242,61 @@ module _ (x : Setting) (seeds : List (List ℕ)) (h : History) (k : ℕ) (l : Li
     served = λ r e. absurd (called_down d r flight e);
   }
 
-  pub logged_hello : LinkInvariant x h (seed_of seeds k) (link_called (want_hello reader_key) l)
-      → Logged x seeds h k (link_called (want_hello reader_key) l) log (called_entries (want_hello reader_key))
+  pub logged_hello : LinkInvariant x h (seed_of seeds k) (link_called (hello_call reader_key) l)
+      → Logged x seeds h k (link_called (hello_call reader_key) l) log (called_entries (hello_call reader_key))
   logged_hello n =
-      let es = called_entries (want_hello reader_key) in
+      let es = called_entries (hello_call reader_key) in
       let number = same_number k l.client.number log es g.number (refl, (refl, tt)) in
       record {
-        kept = called_log (want_hello reader_key) (called_state (want_hello reader_key)) n.phase number (g.hint ∙ sym (hint_more k log es)) tt;
+        kept = called_log (hello_call reader_key) (called_state (hello_call reader_key)) n.phase number (g.hint ∙ sym (hint_more k log es)) tt;
         earlier = (tt, ((log, refl), tt));
       }
 
   -- a sync that begins by parts or by what changed
   begun : (base : Option ℕ) (s : Scheme) → delta_base s l.client.hint ≡ base → LinkInvariant x h (seed_of seeds k) (link_begun base s l)
-      → Logged x seeds h k (link_begun base s l) log (entries_of (want_sync s) (sync_begun base s l.client))
+      → Logged x seeds h k (link_begun base s l) log (entries_of (sync_call s) (sync_begun base s l.client))
   begun None s is n =
       let d = sync_begun None s l.client in
-      let es = entries_of (want_sync s) d in
+      let es = entries_of (sync_call s) d in
       let dropped : fold (hint_after k) (hint_named k log) es ≡ None = rw (eq-eqb k k refl) refl in
       record {
-        kept = called_log (want_sync s) d n.phase (same_number k l.client.number log es g.number (refl, (refl, tt))) (sym (hint_more k log es ∙ dropped)) refl;
+        kept = called_log (sync_call s) d n.phase (same_number k l.client.number log es g.number (refl, (refl, tt))) (sym (hint_more k log es ∙ dropped)) refl;
         earlier = (tt, (inl (log, s, refl, refl, refl), tt));
       }
   begun (Some since) s is n =
       let d = sync_begun (Some since) s l.client in
-      let es = entries_of (want_sync s) d in
+      let es = entries_of (sync_call s) d in
       let b = base_is s l.client.hint since is in
       let named : hint_named k log ≡ Some (Simple, since) =
       sym g.hint ∙ ap name_of b.held ∙ rw (b.simple, b.version) refl in
       let wide : Bool = is_wide_client l.client in
       record {
-        kept = called_log (want_sync s) d (since_in_flight x h l.standing (seed_of seeds k) d since wide _ _ n.phase)
+        kept = called_log (sync_call s) d (since_in_flight x h l.standing (seed_of seeds k) d since wide _ _ n.phase)
             (same_number k l.client.number log es g.number (refl, (refl, tt)))
             (g.hint ∙ sym (hint_more k log es ∙ since_keeps k (hint_named k log) d since wide)) (since_from x h (seed_of seeds k) k d since wide _);
         earlier = (
           tt,
           (
             since_earlier x seeds h k d since wide _
-                (log, ap (λ (z : Scheme). log ++ Called k (want_sync z) None ∷ []) b.scheme, named),
+                (log, ap (λ (z : Scheme). log ++ Called k (sync_call z) None ∷ []) b.scheme, named),
             tt,
           ),
         );
       }
 
-  pub logged_sync : (s : Scheme) → LinkInvariant x h (seed_of seeds k) (link_called (want_sync s) l)
-      → Logged x seeds h k (link_called (want_sync s) l) log (called_entries (want_sync s))
+  pub logged_sync : (s : Scheme) → LinkInvariant x h (seed_of seeds k) (link_called (sync_call s) l)
+      → Logged x seeds h k (link_called (sync_call s) l) log (called_entries (sync_call s))
   logged_sync s n = begun (delta_base s l.client.hint) s refl n
 
   abbrev retrieval : ℕ → Retrieval
   retrieval j = record { index = j; scheme = scheme_held l.client.hint; version = known_version l.client.known; number = l.client.number }
 
-  asked : (j : ℕ) → LinkInvariant x h (seed_of seeds k) (link_called (want_ask j) l)
-      → IsAsked x h (seed_of seeds k) k (retrieval j) (called_frame (want_ask j)) (log ++ Called k (want_ask j) None ∷ [])
+  asked : (j : ℕ) → LinkInvariant x h (seed_of seeds k) (link_called (ask_call j) l)
+      → IsAsked x h (seed_of seeds k) k (retrieval j) (called_frame (ask_call j)) (log ++ Called k (ask_call j) None ∷ [])
   asked j n =
       let s = scheme_held l.client.hint in
       let v = known_version l.client.known in
-      let w = ask_words x seeds k h (seed_of seeds k) l.standing (called_state (want_ask j)) j s v l.client.number n.seed_is n.known n.hint n.call in
+      let w = ask_words x seeds k h (seed_of seeds k) l.standing (called_state (ask_call j)) j s v l.client.number n.seed_is n.known n.hint n.call in
       let named : Some (n.call.hint.scheme, n.call.hint.version) ≡ Some (s, v) = rw (n.call.scheme_is, n.call.version_is) refl in
       record {
         before = log;
@@ -308,14 +308,14 @@ module _ (x : Setting) (seeds : List (List ℕ)) (h : History) (k : ℕ) (l : Li
         query_is = ap (λ (ws : List ℕ). frame.Query (scheme_byte s) v ws) w.2;
       }
 
-  pub logged_ask : (j : ℕ) → LinkInvariant x h (seed_of seeds k) (link_called (want_ask j) l)
-      → Logged x seeds h k (link_called (want_ask j) l) log (called_entries (want_ask j))
+  pub logged_ask : (j : ℕ) → LinkInvariant x h (seed_of seeds k) (link_called (ask_call j) l)
+      → Logged x seeds h k (link_called (ask_call j) l) log (called_entries (ask_call j))
   logged_ask j n =
-      let es = called_entries (want_ask j) in
+      let es = called_entries (ask_call j) in
       let spent : asks_of k (log ++ es) ≡ asks_of k log + 1 + 0 = fold-append (λ a e. a + cond (is_ask k e) 1 0) 0 log es ∙ rw (eq-eqb k k refl) refl in
       let a = asked j n in
       record {
-        kept = called_log (want_ask j) (called_state (want_ask j)) n.phase (omega (arith, spent, g.number)) (g.hint ∙ sym (hint_more k log es)) a;
+        kept = called_log (ask_call j) (called_state (ask_call j)) n.phase (omega (arith, spent, g.number)) (g.hint ∙ sym (hint_more k log es)) a;
         earlier = (tt, ((_, a), tt));
       }
 

@@ -27,7 +27,8 @@ is_ask k _ = false
 abbrev pub asks_of : ℕ → List Entry → ℕ
 asks_of k log = count_by (is_ask k) log
 
--- what an entry says of the hint of client k, by its scheme and its version: none is held once a first part is asked for, and a sync's end names one
+-- what an entry says of the hint of client k, by its scheme and its version: none is held once a
+-- first part is asked for, and a sync's end names one
 abbrev pub hint_after : ℕ → Option (Scheme × ℕ) → Entry → Option (Scheme × ℕ)
 hint_after k hint (Sent j (frame.HintAsk scheme version part)) = cond ((j == k) && (part == 0)) None hint
 hint_after k hint (Plain (Reported j (Synced scheme version))) = cond (j == k) (Some (scheme, version)) hint
@@ -63,8 +64,9 @@ pub record IsServedLast (k : ℕ) (f reply : Frame) (first log : List Entry) : T
   pub sent : IsSentLast k f first before
   pub aside : AllByRecursion (IsAside k) since
 
--- A retrieval was asked for last: its number is the count of the asks accepted before, its scheme and its version are
--- those of the hint held then, and these are its query's words on the records of that version.
+-- A retrieval was asked for last: its number is the count of the asks accepted before, its scheme
+-- and its version are those of the hint held then, and these are its query's words on the records
+-- of that version.
 pub record IsAsked (x : Setting) (h : History) (seed : List ℕ) (k : ℕ) (r : Retrieval) (query : Frame) (log : List Entry) : Type 0 where
   pub before : List Entry
   pub log_is : log ≡ before ++ Called k (Ask r.index) None ∷ []
@@ -74,19 +76,21 @@ pub record IsAsked (x : Setting) (h : History) (seed : List ℕ) (k : ℕ) (r : 
   pub version_is : HasVersion h r.version records
   pub query_is : query ≡ frame.Query (scheme_byte r.scheme) r.version (asked_words x.plan records seed r)
 
--- the ask of a retrieval that ended was accepted, then its query was sent, and then it was served with the reply
+-- the ask of a retrieval that ended was accepted, then its query was sent, and then it was served
+-- with the reply
 pub record IsEndOfAsk (x : Setting) (h : History) (seed : List ℕ) (k : ℕ) (r : Retrieval) (reply : Frame) (log : List Entry) : Type 0 where
   pub query : Frame
   pub first : List Entry
   pub asked : IsAsked x h seed k r query first
   pub served : IsServedLast k query reply first log
 
--- the frame that asks for what changed since a version: for rows of the hint, or in a wide store for records
+-- the frame that asks for what changed since a version: for rows of the hint, or in a wide store
+-- for records
 abbrev pub IsAskSince : ℕ → Frame → Type 0
 IsAskSince since f = (f ≡ frame.DeltaAsk since) ⊎ (f ≡ frame.ChangesAsk since)
 
--- A part of a hint was asked for: the first after an accepted sync, or after what changed was asked for in vain, and each other after
--- the one before it was served.
+-- A part of a hint was asked for: the first after an accepted sync, or after what changed was asked
+-- for in vain, and each other after the one before it was served.
 abbrev pub IsAskForPart : ℕ → ℕ → ℕ → ℕ → List Entry → Type 0
 IsAskForPart k scheme version part log =
     ((first : List Entry) × (s : Scheme) × (log ≡ first ++ Called k (Sync s) None ∷ []) × (scheme ≡ scheme_byte s) × (part ≡ 0))
@@ -95,14 +99,15 @@ IsAskForPart k scheme version part log =
     ⊎ ((first : List Entry) × (since : ℕ) × (count : ℕ) × (ask : Frame) × (scheme ≡ scheme_byte Simple) × (part ≡ 0) × IsAskSince since ask ×
     IsServedLast k ask (frame.NoDelta version count) first log)
 
--- What changed since a version was asked for: after an accepted sync of SimplePIR, while that version's hint was held.
+-- What changed since a version was asked for: after an accepted sync of SimplePIR, while that
+-- version's hint was held.
 abbrev pub IsAskForChanges : ℕ → ℕ → List Entry → Type 0
 IsAskForChanges k since log =
     (first : List Entry) × (log ≡ first ++ Called k (Sync Simple) None ∷ []) × (hint_named k first ≡ Some (Simple, since))
 
--- What came before an entry: each frame sent is that of a call that was accepted last, or asks for the next part of a
--- hint; each frame served was sent; each retrieval that ended was asked for and served, and each other event came of
--- a reply to the last frame.
+-- What came before an entry: each frame sent is that of a call that was accepted last, or asks for
+-- the next part of a hint; each frame served was sent; each retrieval that ended was asked for and
+-- served, and each other event came of a reply to the last frame.
 abbrev pub HasEarlier : Setting → List (List ℕ) → History → List Entry → Entry → Type 0
 HasEarlier x seeds h before (Sent k (frame.Query scheme version words)) =
     (r : Retrieval) × IsAsked x h (seed_of seeds k) k r (frame.Query scheme version words) before

@@ -28,7 +28,8 @@ ReportedUpTo n (Plain (Reported k event)) = NamesUpTo n event
 ReportedUpTo n (Plain (Published v)) = v ≤ n
 ReportedUpTo n _ = Unit {0}
 
--- a frame was served while version `now` was current, and no later one had been reported to anybody before
+-- a frame was served while version `now` was current, and no later one had been reported to anybody
+-- before
 abbrev pub IsServedFresh : List Entry → Entry → Type 0
 IsServedFresh before (Served k f now reply) = AllByRecursion (ReportedUpTo now) before
 IsServedFresh before _ = Unit {0}
@@ -37,13 +38,15 @@ IsServedFresh before _ = Unit {0}
 abbrev pub IsFreshLog : List Entry → Type 0
 IsFreshLog log = AllWithEarlier IsServedFresh log
 
--- a frame is served while the version that is current then is `now`, and no later one was reported before
+-- a frame is served while the version that is current then is `now`, and no later one was reported
+-- before
 abbrev pub IsFresh : History → List Entry → Entry → Type 0
 IsFresh h before (Served k f now reply) = (now ≡ current_version h) × AllByRecursion (ReportedUpTo now) before
 IsFresh h before _ = Unit {0}
 
--- So it is at every delivery to the server in every run. An answer is of the version that is current when its query
--- is served, so it is never older than a version that had been reported to anybody before.
+-- So it is at every delivery to the server in every run. An answer is of the version that is
+-- current when its query is served, so it is never older than a version that had been reported to
+-- anybody before.
 abbrev pub AnswersAreFresh : Type 0
 AnswersAreFresh = (h : Header) (records : List ℕ) (seeds : List (List ℕ)) (steps : List Step) (s : State) → IsOpening h records →
     Run (setting_in h) (opening h records seeds) steps s →

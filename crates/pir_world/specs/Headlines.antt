@@ -25,8 +25,9 @@ use Rattle.pir_world.specs.Runs.{State, Link, Retrieval, Entry, Called, Sent, Se
 use Rattle.pir_world.specs.Versions.{HasVersion, IsVersion, given_words, record_read, IsQuietOn, seed_of, HintIs, name_of}
 use Rattle.pir_world.specs.Earlier.{AllWithEarlier, HasEarlier, hint_named}
 
--- An answered retrieval: the answer is that of the version named, and the event is what it says. Where the retrieval
--- is quiet, and on a certain shape always, that is the record's bytes in this version.
+-- An answered retrieval: the answer is that of the version named, and the event is what it says.
+-- Where the retrieval is quiet, and on a certain shape always, that is the record's bytes in this
+-- version.
 pub record IsAnswered (x : Setting) (h : History) (seed : List ℕ) (r : Retrieval) (reply : Frame) (event : Event) : Type 0 where
   pub records : List (List ℕ)
   pub version_is : HasVersion h r.version records
@@ -51,9 +52,9 @@ IsRightEnd x h seed r reply event =
     IsAnswered x h seed r reply event ⊎ IsStale h r reply event
     ⊎ ((reply ≡ refused refusal.Memory) × (event ≡ Refused (code_of refusal.Memory)))
 
--- A query of a scheme was served while `now` was current: it is refused as stale, with the current version, exactly
--- when it names another. Else it is answered on that version's records, or refused because the server was out of
--- memory.
+-- A query of a scheme was served while `now` was current: it is refused as stale, with the current
+-- version, exactly when it names another. Else it is answered on that version's records, or refused
+-- because the server was out of memory.
 pub record IsRightReply (x : Setting) (h : History) (scheme : Scheme) (version now : ℕ) (words : List ℕ) (reply : Option Frame) : Type 0 where
   pub records : List (List ℕ)
   pub version_is : HasVersion h now records
@@ -98,8 +99,8 @@ IsRight x seeds h (Served k f now reply) = IsServed x h now f reply
 IsRight x seeds h (Ended k r reply event) = IsRightEnd x h (seed_of seeds k) r reply event
 IsRight x seeds h (Plain o) = IsRightOutcome h o
 
--- In a run from an opening: all that was written down is right, by itself and by what came before it. Every hint is
--- right, and it is the one that the log names.
+-- In a run from an opening: all that was written down is right, by itself and by what came before
+-- it. Every hint is right, and it is the one that the log names.
 pub record Headline (x : Setting) (seeds : List (List ℕ)) (s : State) : Type 0 where
   pub entries : AllByRecursion (IsRight x seeds s.history) s.log
   pub earlier : AllWithEarlier (HasEarlier x seeds s.history) s.log

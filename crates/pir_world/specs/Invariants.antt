@@ -99,7 +99,8 @@ CallIs x h c (Edit i bytes) = ⊥
 CallIs x h c (Append bytes) = ⊥
 CallIs x h c Publish = ⊥
 
--- refused because the server was out of memory, stale with a later version that there is, or the reply itself
+-- refused because the server was out of memory, stale with a later version that there is, or the
+-- reply itself
 abbrev pub IsReplyOf : Setting → History → ℕ → Frame → (List (List ℕ) → Frame) → Type 0
 IsReplyOf x h v r answer =
     (r ≡ refused refusal.Memory)
@@ -111,7 +112,8 @@ abbrev pub welcome_frame : Setting → ℕ → List (List ℕ) → Frame
 welcome_frame x v records =
     frame.Welcome (profile_of x.plan) x.plan.width x.plan.record_len x.plan.groups (length records) v x.plan.dimension x.plan.seed
 
--- a Delta to a version's hint: its rows are that hint's, and they are all in which the hint of the version asked from is another
+-- a Delta to a version's hint: its rows are that hint's, and they are all in which the hint of the
+-- version asked from is another
 pub record IsDeltaTo (x : Setting) (h : History) (since : ℕ) (r : Frame) : Type 0 where
   pub now : ℕ
   pub records : List (List ℕ)
@@ -125,8 +127,9 @@ pub record IsDeltaTo (x : Setting) (h : History) (since : ℕ) (r : Frame) : Typ
       Contains numbers i ⊎ (row (hint_matrix Simple x.plan before) i ≡ row (hint_matrix Simple x.plan records) i)
   pub reply_is : r ≡ frame.Delta since now (length records) (named_hint_rows x records numbers)
 
--- Changes to a version from an earlier one: their entries are all that differs between the two, of the bytes that records have in the digits, where
--- blanks stand for those that were appended between
+-- Changes to a version from an earlier one: their entries are all that differs between the two, of
+-- the bytes that records have in the digits, where blanks stand for those that were appended
+-- between
 pub record IsChangesTo (x : Setting) (h : History) (since : ℕ) (r : Frame) : Type 0 where
   pub now : ℕ
   pub records : List (List ℕ)
@@ -185,7 +188,8 @@ pub record LinkInvariant (x : Setting) (h : History) (seed : List ℕ) (l : Link
   pub call : CallIs x h l.client l.client.call
   pub phase : Phase x h l.standing seed l.client l.client.call l.up.frames l.down.frames
 
--- a sync's frame asks for its next part, or for what changed; an ask's is the query of its retrieval, which was asked for last
+-- a sync's frame asks for its next part, or for what changed; an ask's is the query of its
+-- retrieval, which was asked for last
 abbrev pub IsFrom : Setting → History → List ℕ → ℕ → Call → Frame → List Entry → Type 0
 IsFrom x h seed k (Ask i s v n) f first =
     IsAsked x h seed k (record { index = i; scheme = s; version = v; number = n }) f first
@@ -194,7 +198,8 @@ IsFrom x h seed k (Delta since) f first = f ≡ frame.DeltaAsk since
 IsFrom x h seed k (Changes since) f first = f ≡ frame.ChangesAsk since
 IsFrom x h seed k _ f first = Unit {0}
 
--- what the log says of a client: its next number, the hint that it holds, the frame on its way, or the reply
+-- what the log says of a client: its next number, the hint that it holds, the frame on its way, or
+-- the reply
 pub record LogInvariant (x : Setting) (h : History) (seed : List ℕ) (k : ℕ) (l : Link) (log : List Entry) : Type 0 where
   pub number : l.client.number ≡ asks_of k log
   pub hint : name_of l.client.hint ≡ hint_named k log

@@ -27,8 +27,8 @@ use Rattle.client_core.specs.declared.state.Event.{Event}
 use Rattle.client_core.specs.declared.state.Reaction.{Reaction}
 use Rattle.client_core.specs.declared.state.Reaction.TheVariants.{Asks, Reports, Fails}
 use Rattle.client_core.specs.States.{fresh_in}
-use Rattle.client_core.specs.Calls.{Want, refusal, state_after_call, call_frame}
-use Rattle.client_core.specs.Calls.{Hello as want_hello, Sync as want_sync, Ask as want_ask}
+use Rattle.client_core.specs.Calls.{ClientCall, refusal, state_after_call, call_frame}
+use Rattle.client_core.specs.Calls.{Hello as hello_call, Sync as sync_call, Ask as ask_call}
 use Rattle.client_core.specs.Replies.{reaction_to_reply}
 use Rattle.client_core.specs.Feeding.{takes_all, fault_of}
 use Rattle.pir_world.specs.declared.steps.Step.{Step}
@@ -38,7 +38,8 @@ use Rattle.pir_world.specs.declared.steps.Outcome.TheVariants.{Edited, EditRefus
 
 -- ---- one direction of a link
 
--- the frames that were sent and have not wholly arrived, in order, and how many bytes of the first have
+-- the frames that were sent and have not wholly arrived, in order, and how many bytes of the first
+-- have
 pub record Wire : Type 0 where
   pub frames : List Frame
   pub got : ℕ
@@ -75,17 +76,18 @@ beyond w most = unread w.frames (reach w most)
 
 -- ---- what is written down of a run
 
--- an accepted call that asks for a record: its index, the scheme and the version that the client's hint names, the number spent
+-- an accepted call that asks for a record: its index, the scheme and the version that the client's
+-- hint names, the number spent
 pub record Retrieval : Type 0 where
   pub index : ℕ
   pub scheme : Scheme
   pub version : ℕ
   pub number : ℕ
 
--- A client was called, and why the call was refused, if it was; it sent a frame; a frame was served while `now` was
--- the current version; a reply ended a retrieval with an event; any other outcome.
+-- A client was called, and why the call was refused, if it was; it sent a frame; a frame was served
+-- while `now` was the current version; a reply ended a retrieval with an event; any other outcome.
 pub data Entry : Type 0 where
-  Called : (client : ℕ) (want : Want) (refusal : Option CallFault) → Entry
+  Called : (client : ℕ) (want : ClientCall) (refusal : Option CallFault) → Entry
   Sent : (client : ℕ) (frame : Frame) → Entry
   Served : (client : ℕ) (frame : Frame) (now : ℕ) (reply : Option Frame) → Entry
   Ended : (client : ℕ) (retrieval : Retrieval) (reply : Frame) (event : Event) → Entry
@@ -106,12 +108,14 @@ outcomes_of log = flat_map outcome_of log
 
 -- ---- the server's side of a link
 
--- what a frame leads to; short says that the server is out of memory where the checks end with memory
+-- what a frame leads to; short says that the server is out of memory where the checks end with
+-- memory
 abbrev pub served_or : Bool → Setting → History → Standing → Frame → Reply
 served_or false x h st f = outcome_of_frame x h st f
 served_or true x h st f = if takes_memory x h st f then refuses refusal.Memory st h else outcome_of_frame x h st f
 
--- what some frames lead to: the history and the standing after them, the replies, and what is written down
+-- what some frames lead to: the history and the standing after them, the replies, and what is
+-- written down
 pub record Turn : Type 0 where
   pub history : History
   pub standing : Standing
@@ -143,7 +147,8 @@ serves x short k h st fs = turns x short k (record { history = h; standing = st;
 
 -- ---- links
 
--- a client, its session's standing, and the frames on their way to the server (up) and to the client (down)
+-- a client, its session's standing, and the frames on their way to the server (up) and to the
+-- client (down)
 pub record Link : Type 0 where
   pub client : ClientState
   pub standing : Standing
@@ -171,7 +176,8 @@ abbrev pub reports : ℕ → Call → Frame → Event → Entry
 reports k (call.Ask i s v n) reply e = Ended k (record { index = i; scheme = s; version = v; number = n }) reply e
 reports k _ reply e = Plain (Reported k e)
 
--- what is written down of a reaction to a reply: an event, a fault, or the frame that asks for the next part of a hint
+-- what is written down of a reaction to a reply: an event, a fault, or the frame that asks for the
+-- next part of a hint
 abbrev pub reacts : ℕ → Call → Frame → Reaction → List Entry
 reacts k c reply (Asks scheme version part) = Sent k (frame.HintAsk (scheme_byte scheme) version part) ∷ []
 reacts k c reply (Reports e) = reports k c reply e ∷ []
@@ -184,7 +190,7 @@ reported_by k c (f ∷ fs) = reacts k c.call f (reaction_to_reply c f).reaction 
     (reported_by k (reaction_to_reply c f).state fs)
 
 -- the link after an accepted call
-abbrev pub link_called : Want → Link → Link
+abbrev pub link_called : ClientCall → Link → Link
 link_called w l =
     let c = state_after_call w l.client in
     record { client = c; standing = l.standing; up = sent l.up (call_frame c c.call ∷ []); down = l.down }
@@ -206,14 +212,14 @@ abbrev pub with_history : State → History → Outcome → State
 with_history s h o = record { history = h; links = s.links; log = s.log ++ Plain o ∷ [] }
 
 -- a call at a link, where this refuses it
-abbrev pub call_at : State → ℕ → Want → Link → Option CallFault → State
+abbrev pub call_at : State → ℕ → ClientCall → Link → Option CallFault → State
 call_at s k w l (Some fault) = with_link s s.history k l (Called k w (Some fault) ∷ [])
 call_at s k w l None =
     let m = link_called w l in
     with_link s s.history k m (Called k w None ∷ Sent k (call_frame m.client m.client.call) ∷ [])
 
 -- a call at client k; nothing where there is no such client
-abbrev pub called_at : State → Want → ℕ → Option Link → State
+abbrev pub called_at : State → ClientCall → ℕ → Option Link → State
 called_at s w k None = s
 called_at s w k (Some l) = call_at s k w l (refusal w l.client)
 
@@ -262,9 +268,9 @@ abbrev pub state_after : Setting → Bool → State → Step → State
 state_after x short s (Edit i bytes) = edit_after x s i bytes
 state_after x short s (Append bytes) = append_after x s bytes
 state_after x short s Publish = publish_after s
-state_after x short s (Hello k) = called_at s (want_hello reader_key) k (slice_get s.links k)
-state_after x short s (Sync k scheme) = called_at s (want_sync scheme) k (slice_get s.links k)
-state_after x short s (Ask k i) = called_at s (want_ask i) k (slice_get s.links k)
+state_after x short s (Hello k) = called_at s (hello_call reader_key) k (slice_get s.links k)
+state_after x short s (Sync k scheme) = called_at s (sync_call scheme) k (slice_get s.links k)
+state_after x short s (Ask k i) = called_at s (ask_call i) k (slice_get s.links k)
 state_after x short s (ToServer k most) = served_at x short s k most (slice_get s.links k)
 state_after x short s (ToClient k most) = reported_at s k most (slice_get s.links k)
 

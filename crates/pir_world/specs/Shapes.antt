@@ -1,4 +1,5 @@
--- The shapes of what goes over a client's link, read off the log: the frames that it sends, the server's replies to them, and why its calls are refused.
+-- The shapes of what goes over a client's link, read off the log: the frames that it sends, the
+-- server's replies to them, and why its calls are refused.
 use Rattle.std.specs.Prelude.{◌≡◌, ◌≢◌, ◌==◌, ℕ, List, [], ◌∷◌, Some, false, cond, slice_get}
 use Rattle.std.specs.List.{flat_map, AllByRecursion}
 use Rattle.frame_codec.specs.declared.refusal.Refusal.TheVariants.{Memory}
@@ -8,7 +9,7 @@ use Rattle.server_core.specs.Serving.{Setting}
 use Rattle.client_core.specs.declared.state.CallFault.{CallFault}
 use Rattle.client_core.specs.declared.state.CallFault.TheVariants.{BadIndex}
 use Rattle.client_core.specs.Calls.{refusal}
-use Rattle.client_core.specs.Calls.{Ask as want_ask}
+use Rattle.client_core.specs.Calls.{Ask as ask_call}
 use Rattle.client_core.specs.Shapes.{FrameShape, shape_of_frame}
 use Rattle.pir_world.specs.declared.steps.Step.{Step}
 use Rattle.pir_world.specs.declared.steps.Step.TheVariants.{Ask}
@@ -45,8 +46,8 @@ call_refusal k _ = []
 abbrev pub call_refusals : ℕ → List Entry → List CallFault
 call_refusals k log = flat_map (call_refusal k) log
 
--- Two logs say that over each link the same shapes went, each way in the same order, and that the same calls were refused: as many, for
--- the same causes in the same order.
+-- Two logs say that over each link the same shapes went, each way in the same order, and that the
+-- same calls were refused: as many, for the same causes in the same order.
 pub record HaveEqualShapes (log other : List Entry) : Type 0 where
   pub sent : (k : ℕ) → sent_shapes k log ≡ sent_shapes k other
   pub replies : (k : ℕ) → reply_shapes k log ≡ reply_shapes k other
@@ -74,16 +75,18 @@ HadMemory _ = Unit {0}
 
 -- an ask is not refused for its index, if the other step is one of another index
 abbrev pub AskIsWithin : State → Step → Step → Type 0
-AskIsWithin s (Ask k i) other = other ≢ Ask k i → (l : Link) → slice_get s.links k ≡ Some l → refusal (want_ask i) l.client ≢ Some BadIndex
+AskIsWithin s (Ask k i) other = other ≢ Ask k i → (l : Link) → slice_get s.links k ≡ Some l → refusal (ask_call i) l.client ≢ Some BadIndex
 AskIsWithin s _ other = Unit {0}
 
--- Of some steps, one after another, no ask is refused for its index whose index differs from that of the other step in its place; the
--- server has memory. An ask that is the same in both lists is any, also one of no record, or of a client that was not let in.
+-- Of some steps, one after another, no ask is refused for its index whose index differs from that
+-- of the other step in its place; the server has memory. An ask that is the same in both lists is
+-- any, also one of no record, or of a client that was not let in.
 abbrev pub AsksAreWithin : Setting → State → List Step → List Step → Type 0
 AsksAreWithin x s (step ∷ steps) (other ∷ others) = AskIsWithin s step other × AsksAreWithin x (state_after x false s step) steps others
 AsksAreWithin x s _ _ = Unit {0}
 
--- a run without refusals for memory, in which no ask is refused for its index whose index differs from that in the other steps
+-- a run without refusals for memory, in which no ask is refused for its index whose index differs
+-- from that in the other steps
 pub record IsPlainRun (x : Setting) (s : State) (steps others : List Step) (t : State) : Type 0 where
   pub run : Run x s steps t
   pub memory : AllByRecursion HadMemory t.log
@@ -91,17 +94,18 @@ pub record IsPlainRun (x : Setting) (s : State) (steps others : List Step) (t : 
 
 -- ---- the law
 
--- In two runs from one opening, whose steps differ in the indices of asks alone, as many frames go each way over each link,
--- in the same order, of the same kinds and lengths, and the same calls are refused for the same causes. In both no reply is refused
--- for lack of memory, and none of the asks whose indices differ is refused for its index.
+-- In two runs from one opening, whose steps differ in the indices of asks alone, as many frames go
+-- each way over each link, in the same order, of the same kinds and lengths, and the same calls are
+-- refused for the same causes. In both no reply is refused for lack of memory, and none of the asks
+-- whose indices differ is refused for its index.
 abbrev pub IndicesChangeNoShape : Type 0
 IndicesChangeNoShape = (h : Header) (records : List ℕ) (seeds : List (List ℕ)) (steps others : List Step) (last last2 : State) →
     IsOpening h records → AreStepsLike steps others →
     IsPlainRun (setting_in h) (opening h records seeds) steps others last → IsPlainRun (setting_in h) (opening h records seeds) others steps last2 →
     HaveEqualShapes last.log last2.log
 
--- in a world the same shapes went over each link, and the same calls were refused, as in each run from its opening whose steps
--- differ from its own in the indices of asks alone
+-- in a world the same shapes went over each link, and the same calls were refused, as in each run
+-- from its opening whose steps differ from its own in the indices of asks alone
 abbrev pub HidesIndices : Kept → State → Type 0
 HidesIndices w s = (others : List Step) (last : State) → AreStepsLike w.steps others →
     AllByRecursion HadMemory s.log → AsksAreWithin (setting_in w.header) (opening w.header w.records w.seeds) w.steps others →

@@ -12,8 +12,8 @@ use Rattle.client_core.specs.declared.state.CallFault.{CallFault}
 use Rattle.client_core.specs.declared.state.ClientFault.{ClientFault}
 use Rattle.client_core.specs.declared.state.Event.{Event}
 use Rattle.client_core.specs.States.{fresh_in}
-use Rattle.client_core.specs.Calls.{Want, Accepts, refusal}
-use Rattle.client_core.specs.Calls.{Hello as want_hello, Sync as want_sync, Ask as want_ask}
+use Rattle.client_core.specs.Calls.{ClientCall, Accepts, refusal}
+use Rattle.client_core.specs.Calls.{Hello as hello_call, Sync as sync_call, Ask as ask_call}
 use Rattle.client_core.specs.Feeding.{Client, FeedsClient}
 use Rattle.pir_world.specs.declared.steps.Step.{Step}
 use Rattle.pir_world.specs.declared.steps.Step.TheVariants as step
@@ -33,10 +33,10 @@ abbrev pub fresh_side : Bool → List ℕ → Side
 fresh_side wide seed = record { client = record { state = fresh_in (client_profile wide) seed 0; reader = Some [] }; up = []; down = [] }
 
 -- the call that is asked for
-abbrev pub want_of : Request → Want
-want_of Hello = want_hello reader_key
-want_of (Sync scheme) = want_sync scheme
-want_of (Ask i) = want_ask i
+abbrev pub call_of : Request → ClientCall
+call_of Hello = hello_call reader_key
+call_of (Sync scheme) = sync_call scheme
+call_of (Ask i) = ask_call i
 
 -- the client that a step names is there
 abbrev pub has_client : Step → ℕ → Bool
@@ -73,13 +73,14 @@ pub record ServesDelivery (most : ℕ) (h : History) (before : StoreState) (old 
   pub down : new.down ≡ old.down ++ replies
 
 -- a call: its frame waits after the other bytes, or it is refused and nothing changes
-abbrev pub MakesCall : Want → Side → Option CallFault → Side → Type 0
+abbrev pub MakesCall : ClientCall → Side → Option CallFault → Side → Type 0
 MakesCall want old None new =
     (bytes : List ℕ) × Accepts old.client.state want new.client.state bytes × (new.client.reader ≡ old.client.reader) × (new.up ≡ old.up ++ bytes)
     × (new.down ≡ old.down)
 MakesCall want old (Some fault) new = (refusal want old.client.state ≡ Some fault) × (new ≡ old)
 
--- a wire of a database, wide or not, by its bytes: what the reader has of the next frame, and then what waits, encode the frames on their way
+-- a wire of a database, wide or not, by its bytes: what the reader has of the next frame, and then
+-- what waits, encode the frames on their way
 pub record Carries (wide : Bool) (reader : Option (List ℕ)) (waiting : List ℕ) (w : Wire) : Type 0 where
   pub unfinished : List ℕ
   pub reader_is : reader ≡ Some unfinished
@@ -103,7 +104,7 @@ Matched wide None session None = Unit {0}
 Matched wide None session (Some l) = ⊥
 
 -- the parts of a world are those of a state
-pub record IsParts (x : Setting) (core : Core) (ends : List Side) (outcomes : List Outcome) (s : State) : Type 0 where
+pub record Implements (x : Setting) (core : Core) (ends : List Side) (outcomes : List Outcome) (s : State) : Type 0 where
   pub setting_is : setting_of core.store ≡ x
   pub store_is : StandsFor core.store s.history
   pub ends_are : (k : ℕ) → Matched (is_wide_setting x) (slice_get ends k) (session_of core.sessions k) (slice_get s.links k)

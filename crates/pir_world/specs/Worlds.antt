@@ -6,10 +6,10 @@ use Rattle.pir_world.specs.declared.steps.Step.{Step}
 use Rattle.pir_world.specs.declared.steps.Outcome.{Outcome}
 use Rattle.pir_world.specs.Runs.{State, Run, opening, outcomes_of, setting_in}
 use Rattle.pir_world.specs.Headlines.{IsOpening}
-use Rattle.pir_world.specs.Sides.{Side, IsParts}
+use Rattle.pir_world.specs.Sides.{Side, Implements}
 
--- the snapshot and the seeds it was opened with, the server, the clients' ends, the steps made and the outcomes, in
--- order, and whether memory was refused in a step
+-- the snapshot and the seeds it was opened with, the server, the clients' ends, the steps made and
+-- the outcomes, in order, and whether memory was refused in a step
 pub record Kept : Type 0 where
   pub header : Header
   pub records : List ℕ
@@ -20,13 +20,13 @@ pub record Kept : Type 0 where
   pub outcomes : List Outcome
   pub broken : Bool
 
--- a run of its steps from its opening leads to this state, whose outcomes it has; until memory was refused in a step,
--- its parts are the state's
+-- a run of its steps from its opening leads to this state, whose outcomes it has; until memory was
+-- refused in a step, its parts are the state's
 pub record IsRunOf (w : Kept) (s : State) : Type 0 where
   pub opens : IsOpening w.header w.records
   pub run : Run (setting_in w.header) (opening w.header w.records w.seeds) w.steps s
   pub outcomes_are : w.outcomes ≡ outcomes_of s.log
-  pub parts : w.broken ≡ false → IsParts (setting_in w.header) w.core w.ends w.outcomes s
+  pub parts : w.broken ≡ false → Implements (setting_in w.header) w.core w.ends w.outcomes s
 
 -- a world that has made no step
 pub record IsNew (w : Kept) (h : Header) (records : List ℕ) (seeds : List (List ℕ)) : Type 0 where

@@ -5,7 +5,8 @@ ghost use Rattle.version_store.specs.Histories.{History, StandsFor};
 ghost use Rattle.server_core.specs.Cores.{session_of};
 ghost use Rattle.server_core.specs.Sessions.{Session};
 ghost use Rattle.client_core.specs.Calls.{Accepts, Refuses};
-ghost use Rattle.pir_world.specs.Sides.{fresh_side, want_of, TakesDelivery, ServesDelivery, MakesCall};
+ghost use Rattle.pir_world.specs.Sides.{fresh_side, call_of, TakesDelivery, ServesDelivery};
+ghost use Rattle.pir_world.specs.Sides.{MakesCall};
 
 use bytes::BytesMut;
 use client_core::{CallFault, ClientCore, Fed, Scheme};
@@ -58,7 +59,8 @@ impl<K: Kernel> ClientEndpoint<K> {
         }
     }
 
-    /// Hands at most `most` of the server's bytes to the client. What it sends waits after its other bytes.
+    /// Hands at most `most` of the server's bytes to the client. What it sends waits after its
+    /// other bytes.
     pub fn deliver_down(&mut self, most: usize) -> Result<Fed, AllocError>
         ensures { IfOk result
             (λ fed. TakesDelivery most self.old fed.out.items fed.events.items fed.fault self.new) }
@@ -72,8 +74,8 @@ impl<K: Kernel> ClientEndpoint<K> {
         Ok(fed)
     }
 
-    /// Hands at most `most` of the client's bytes to its session. The replies wait after the server's other
-    /// bytes.
+    /// Hands at most `most` of the client's bytes to its session. The replies wait after the
+    /// server's other bytes.
     pub fn deliver_up<S: Kernel>(
         &mut self,
         alloc: Global,
@@ -104,7 +106,7 @@ impl<K: Kernel> ClientEndpoint<K> {
 
     /// Makes a call, and says why it is refused, if it is. Its bytes wait after the others.
     pub fn call(&mut self, request: Request) -> Result<Option<CallFault>, AllocError>
-        ensures { IfOk result (λ refused. MakesCall (want_of request) self.old refused self.new) }
+        ensures { IfOk result (λ refused. MakesCall (call_of request) self.old refused self.new) }
     {
         let called = self.request(request);
         match called {
@@ -122,9 +124,9 @@ impl<K: Kernel> ClientEndpoint<K> {
     /// Makes a call of the client: its frame as bytes, or why it is refused.
     fn request(&mut self, request: Request) -> Result<Vec<u8>, CallFault>
         ensures accepted { IfOk result (λ bytes. Accepts self.old.client.state
-            (want_of request) self.new.client.state bytes.items) }
+            (call_of request) self.new.client.state bytes.items) }
         ensures refused { IfErr result (λ e. Refuses self.old.client.state
-            (want_of request) e self.new.client.state) }
+            (call_of request) e self.new.client.state) }
         ensures kept { (self.new.client.reader ≡ self.old.client.reader) ×
             (self.new.up ≡ self.old.up) × (self.new.down ≡ self.old.down) }
     {

@@ -1,11 +1,12 @@
-//! All interleavings of a publisher, a server and its clients, step by step, over the bytes between them.
+//! All interleavings of a publisher, a server and its clients, step by step, over the bytes between
+//! them.
 //!
-//! A [`World`] holds the server of one store, clients with a session each, and the bytes that wait in each
-//! direction. Each step is an edit, a publication, a client's call, or the delivery of some of the waiting
-//! bytes. What comes of the steps is the list of outcomes; the contract of [`World::outcomes`] says what
-//! they are, and that they are right, for every list of steps.
+//! A [`World`] holds the server of one store, clients with a session each, and the bytes that wait
+//! in each direction. Each step is an edit, a publication, a client's call, or the delivery of some
+//! of the waiting bytes. What comes of the steps is the list of outcomes; the contract of
+//! [`World::outcomes`] says what they are, and that they are right, for every list of steps.
 //!
-//! Its tests are in `world_tests::world` and `tests/long/world_tests`.
+//! Its tests are in `tests_world::world` and `tests/long/tests_world`.
 #![tactic(auto)]
 
 mod client_endpoint;

@@ -1,13 +1,15 @@
 //! Steps on the parts of a world.
 
-ghost use Rattle.std.specs.Prelude.{◌≡◌, ◌<◌, ◌≤◌, ◌+◌, ◌++◌, ℕ, List, length, map, OnOk, OnErr, slice_get, Bool, true, false, vec_len, vec_capacity};
+ghost use Rattle.std.specs.Prelude.{◌≡◌, ◌<◌, ◌≤◌, ◌+◌, ◌++◌, ℕ, List, length, map, OnOk, OnErr};
+ghost use Rattle.std.specs.Prelude.{slice_get, Bool, true, false, vec_len, vec_capacity};
 ghost use Rattle.server_core.specs.Cores.{Core};
 ghost use Rattle.server_core.specs.Serving.{Setting};
 ghost use Rattle.pir_world.specs.declared.steps.Outcome.TheVariants.{Reported};
 ghost use Rattle.pir_world.specs.declared.steps.Step.TheVariants as step;
-ghost use Rattle.pir_world.specs.Runs.{State, Steps, state_after, append_after, edit_after, publish_after, called_at};
+ghost use Rattle.pir_world.specs.Runs.{State, Steps, state_after, append_after, edit_after};
+ghost use Rattle.pir_world.specs.Runs.{publish_after, called_at};
 ghost use Rattle.pir_world.specs.Invariants.{WorldInvariant};
-ghost use Rattle.pir_world.specs.Sides.{Side, IsParts, want_of, has_client};
+ghost use Rattle.pir_world.specs.Sides.{Side, Implements, call_of, has_client};
 
 use crate::client_endpoint::{ClientEndpoint, Request};
 use crate::steps::{Outcome, Step};
@@ -43,10 +45,10 @@ pub fn apply_step<K: Kernel>(
     step: &Step,
 ) -> Result<(), AllocError>
     requires { has_client step.now (length ends.old.items) ≡ true }
-    ensures made { OnOk result ((x : Setting) (seeds : List (List ℕ)) (s : State) → WorldInvariant x seeds s →
-        IsParts x server.old ends.old.items outcomes.old.items s →
+    ensures made { OnOk result ((x : Setting) (seeds : List (List ℕ)) (s : State) →
+        WorldInvariant x seeds s → Implements x server.old ends.old.items outcomes.old.items s →
         (t : State) × Steps x s step.now t ×
-        IsParts x server.new ends.new.items outcomes.new.items t) }
+        Implements x server.new ends.new.items outcomes.new.items t) }
     ensures clients { length ends.new.items ≡ length ends.old.items }
     ensures none { OnErr result (outcomes.new.items ≡ outcomes.old.items) }
 {
@@ -70,8 +72,8 @@ fn edit<K: Kernel>(
     outcomes: &mut Vec<Outcome>,
 ) -> Result<(), AllocError>
     ensures made { OnOk result ((ends : List Side) (x : Setting) (s : State) →
-        IsParts x server.old ends outcomes.old.items s →
-        IsParts x server.new ends outcomes.new.items (edit_after x s index bytes.now)) }
+        Implements x server.old ends outcomes.old.items s →
+        Implements x server.new ends outcomes.new.items (edit_after x s index bytes.now)) }
     ensures none { OnErr result (outcomes.new.items ≡ outcomes.old.items) }
 {
     outcomes.reserve(1)?;
@@ -90,8 +92,8 @@ fn append<K: Kernel>(
     outcomes: &mut Vec<Outcome>,
 ) -> Result<(), AllocError>
     ensures made { OnOk result ((ends : List Side) (x : Setting) (s : State) →
-        IsParts x server.old ends outcomes.old.items s →
-        IsParts x server.new ends outcomes.new.items (append_after x s bytes.now)) }
+        Implements x server.old ends outcomes.old.items s →
+        Implements x server.new ends outcomes.new.items (append_after x s bytes.now)) }
     ensures none { OnErr result (outcomes.new.items ≡ outcomes.old.items) }
 {
     outcomes.reserve(1)?;
@@ -109,8 +111,8 @@ fn publish<K: Kernel>(
     outcomes: &mut Vec<Outcome>,
 ) -> Result<(), AllocError>
     ensures made { OnOk result ((ends : List Side) (x : Setting) (s : State) →
-        IsParts x server.old ends outcomes.old.items s →
-        IsParts x server.new ends outcomes.new.items (publish_after s)) }
+        Implements x server.old ends outcomes.old.items s →
+        Implements x server.new ends outcomes.new.items (publish_after s)) }
     ensures none { OnErr result (outcomes.new.items ≡ outcomes.old.items) }
 {
     outcomes.reserve(1)?;
@@ -131,8 +133,8 @@ fn call<K: Kernel>(
 ) -> Result<(), AllocError>
     requires { k < length ends.old.items }
     ensures made { OnOk result ((core : Core) (x : Setting) (seeds : List (List ℕ)) (s : State) →
-        WorldInvariant x seeds s → IsParts x core ends.old.items outcomes.old.items s →
-        IsParts x core ends.new.items outcomes.new.items (called_at s (want_of request) k
+        WorldInvariant x seeds s → Implements x core ends.old.items outcomes.old.items s →
+        Implements x core ends.new.items outcomes.new.items (called_at s (call_of request) k
         (slice_get s.links k))) }
     ensures clients { length ends.new.items ≡ length ends.old.items }
     ensures none { OnErr result (outcomes.new.items ≡ outcomes.old.items) }
@@ -156,8 +158,9 @@ fn serve<K: Kernel>(
 ) -> Result<(), AllocError>
     requires { k < length ends.old.items }
     ensures made { OnOk result ((x : Setting) (seeds : List (List ℕ)) (s : State)
-        (outcomes : List Outcome) → WorldInvariant x seeds s → IsParts x server.old ends.old.items outcomes s →
-        (short : Bool) × IsParts x server.new ends.new.items outcomes
+        (outcomes : List Outcome) → WorldInvariant x seeds s →
+        Implements x server.old ends.old.items outcomes s →
+        (short : Bool) × Implements x server.new ends.new.items outcomes
         (state_after x short s (step.ToServer k most))) }
     ensures clients { length ends.new.items ≡ length ends.old.items }
 {
@@ -200,8 +203,8 @@ fn report<K: Kernel>(
 ) -> Result<(), AllocError>
     requires { k < length ends.old.items }
     ensures made { OnOk result ((core : Core) (x : Setting) (seeds : List (List ℕ)) (s : State) →
-        WorldInvariant x seeds s → IsParts x core ends.old.items outcomes.old.items s →
-        IsParts x core ends.new.items outcomes.new.items
+        WorldInvariant x seeds s → Implements x core ends.old.items outcomes.old.items s →
+        Implements x core ends.new.items outcomes.new.items
         (state_after x false s (step.ToClient k most))) }
     ensures clients { length ends.new.items ≡ length ends.old.items }
     ensures none { OnErr result (outcomes.new.items ≡ outcomes.old.items) }

@@ -55,7 +55,8 @@ pub enum StepFault {
     /// There is no such client. The world is as it was.
     #[error("there is no such client")]
     NoClient,
-    /// Memory was refused. Outcomes and steps are as they were, and every later step answers `Broken`.
+    /// Memory was refused. Outcomes and steps are as they were, and every later step answers
+    /// `Broken`.
     #[error("out of memory")]
     Memory,
     /// Memory was refused in an earlier step.

@@ -1,6 +1,7 @@
 //! A world.
 
-ghost use Rattle.std.specs.Prelude.{◌≡◌, ◌∷◌, ◌++◌, [], List, ℕ, ◌↔◌, true, false, OnOk, IfOk, IfErr, IsErrOf, length, map, Some, None, All, ◌^◌, ◌<◌, ◌⊎◌};
+ghost use Rattle.std.specs.Prelude.{◌≡◌, ◌∷◌, ◌++◌, [], List, ℕ, ◌↔◌, true, false, OnOk, IfOk};
+ghost use Rattle.std.specs.Prelude.{IfErr, IsErrOf, length, map, Some, None, All, ◌^◌, ◌<◌, ◌⊎◌};
 ghost use Rattle.snapshot_file.specs.Snapshots.{header_of};
 ghost use Rattle.version_store.specs.Openings.{IsOpenFault};
 ghost use Rattle.server_core.specs.Cores.{session_of};
@@ -23,11 +24,12 @@ use std::alloc::{AllocError, Global};
 use std::marker::Model;
 use version_store::{Header, OpenError, Snapshot, Store};
 
-/// A store after its server, and clients with a session each, with the bytes that wait between them.
+/// A store after its server, and clients with a session each, with the bytes that wait between
+/// them.
 ///
-/// Contracts see what it was opened with, the server, the clients' ends, the steps made, the outcomes, and
-/// whether memory was refused in a step. The outcomes are those of a run of the steps; until memory was
-/// refused, the server and the ends are what that run leaves, too.
+/// Contracts see what it was opened with, the server, the clients' ends, the steps made, the
+/// outcomes, and whether memory was refused in a step. The outcomes are those of a run of the
+/// steps; until memory was refused, the server and the ends are what that run leaves, too.
 #[derive(Drop)]
 pub struct World<K: Kernel> {
     alloc: Global,
@@ -53,10 +55,11 @@ impl<K: Kernel> Model for World<K> {
 }
 
 impl<K: Kernel> World<K> {
-    /// The world of a snapshot's store and a client for each seed. Client k has session k, and its first
-    /// retrieval has number 0.
+    /// The world of a snapshot's store and a client for each seed. Client k has session k, and its
+    /// first retrieval has number 0.
     ///
-    /// It is refused as `Store::open` refuses the snapshot: `BadLayout`, `BadVersion`, `BadRecords`, `Memory`.
+    /// It is refused as `Store::open` refuses the snapshot: `BadLayout`, `BadVersion`,
+    /// `BadRecords`, `Memory`.
     pub fn new(
         alloc: Global,
         kernel: K,
@@ -95,21 +98,22 @@ impl<K: Kernel> World<K> {
         })
     }
 
-    /// What came of the steps so far, in order: the accepted and refused edits, appends and publications, the
-    /// events, the refused calls and the faults.
+    /// What came of the steps so far, in order: the accepted and refused edits, appends and
+    /// publications, the events, the refused calls and the faults.
     ///
-    /// They are those of a run of the steps, also in a world that was refused memory in a later step, and all
-    /// of it is right: an answered retrieval whose noise sums stay below half of delta gave exactly its
-    /// record's bytes in the version that its hint names, and a query was refused as stale, with the current
-    /// version, exactly when it named another. The log of the run says by earlier entries which call, which
-    /// query and which reply each retrieval had. No answer is older than a version that had been reported
-    /// to anybody when its query was served.
+    /// They are those of a run of the steps, also in a world that was refused memory in a later
+    /// step, and all of it is right: an answered retrieval whose noise sums stay below half of
+    /// delta gave exactly its record's bytes in the version that its hint names, and a query was
+    /// refused as stale, with the current version, exactly when it named another. The log of the
+    /// run says by earlier entries which call, which query and which reply each retrieval had. No
+    /// answer is older than a version that had been reported to anybody when its query was served.
     ///
-    /// Steps that differ from these in the indices of asks alone put the same shapes on each link: as many
-    /// frames each way, in the same order, of the same kinds and lengths; and the same calls are refused, for
-    /// the same causes. Of both it is asked that no reply was refused because the server is out of memory, and
-    /// of the asks whose index differs that none is refused for its index. An ask that is the same in both may
-    /// be of no record, or come too early: it is refused alike, and sends nothing.
+    /// Steps that differ from these in the indices of asks alone put the same shapes on each link:
+    /// as many frames each way, in the same order, of the same kinds and lengths; and the same
+    /// calls are refused, for the same causes. Of both it is asked that no reply was refused
+    /// because the server is out of memory, and of the asks whose index differs that none is
+    /// refused for its index. An ask that is the same in both may be of no record, or come too
+    /// early: it is refused alike, and sends nothing.
     pub fn outcomes(&self) -> &[Outcome]
         ensures kept { result.now ≡ self.now.outcomes }
         ensures right { (s : State) × IsRunOf self.now s × (result.now ≡ outcomes_of s.log) ×
@@ -131,10 +135,11 @@ impl<K: Kernel> World<K> {
 
     /// Makes one step.
     ///
-    /// `Broken` exactly when memory was refused in an earlier step; else `NoClient` exactly when the step
-    /// names a client that there is none of, and the world is as it was; else it is made, or `Memory`: then
-    /// outcomes and steps are as they were, and every later step answers `Broken`. A reply that the server
-    /// is refused memory for is no such fault: the client is refused with code 12, and the world goes on.
+    /// `Broken` exactly when memory was refused in an earlier step; else `NoClient` exactly when
+    /// the step names a client that there is none of, and the world is as it was; else it is made,
+    /// or `Memory`: then outcomes and steps are as they were, and every later step answers
+    /// `Broken`. A reply that the server is refused memory for is no such fault: the client is
+    /// refused with code 12, and the world goes on.
     pub fn step(&mut self, step: Step) -> Result<(), StepFault>
         ensures extends { OnOk result ((s : State) → IsRunOf self.old s → (t : State) ×
             Steps (setting_in self.old.header) s step t × IsRunOf self.new t) }

@@ -10,7 +10,8 @@ use Rattle.publication_log.specs.Entries.{entry, IsTorn}
 use Rattle.publication_log.specs.Logs.{log_bytes, end_link, AreNext, IsVerdict}
 use Rattle.publication_log.specs.Steps.{Step, Writes, WriteFails, Syncs, SyncFails, Truncates, TruncateFails, append_course, cut_course}
 
--- what surely is in the file, what was written after that, and what was cut off after both, all since the last sync
+-- what surely is in the file, what was written after that, and what was cut off after both, all
+-- since the last sync
 pub record Device : Type 0 where
   pub synced : List ℕ
   pub pending : List ℕ
@@ -42,12 +43,13 @@ abbrev pub after_steps : Device → List Step → Device
 after_steps device [] = device
 after_steps device (step ∷ steps) = after_steps (after_step device step) steps
 
--- Torn bytes after a log that is on the device. Of bytes that are no prefix of what was written or cut off this is supposed: that by
--- chance no entry with its SHA-256 is among them.
+-- Torn bytes after a log that is on the device. Of bytes that are no prefix of what was written or
+-- cut off this is supposed: that by chance no entry with its SHA-256 is among them.
 abbrev pub IsTornTail : LogHeader → List ℕ → List ℕ → Type 0
 IsTornTail h synced tail = (ps : List Published) × AreNext h.version ps × (synced ≡ log_bytes h ps) × IsTorn (end_link h ps) tail
 
--- a crash may leave this: what is surely there, and any prefix of what was written or cut off after it, or torn bytes
+-- a crash may leave this: what is surely there, and any prefix of what was written or cut off after
+-- it, or torn bytes
 abbrev pub MayLeave : LogHeader → Device → List ℕ → Type 0
 MayLeave h device found = (tail : List ℕ) × (found ≡ device.synced ++ tail) × (((n : ℕ) × (tail ≡ take n (device.pending ++ device.cut))) ⊎ IsTornTail h device.synced tail)
 
@@ -84,7 +86,8 @@ appending h ps p result = append_course (entry (end_link h ps) (body_bytes p)) r
 abbrev pub cutting : {T : Type 0} → LogHeader → List Published → Result T CutFault → List Step
 cutting h ps result = cut_course (length (log_bytes h ps)) result
 
--- at each moment of an append, however it ends, a crash leaves the publications from before it, with the new one or without
+-- at each moment of an append, however it ends, a crash leaves the publications from before it,
+-- with the new one or without
 abbrev pub EachMomentIsWhole : Type 0
 EachMomentIsWhole = (h : LogHeader) (ps : List Published) (p : Published) (result : Result ⊤ AppendFault) → MayFollow h ps p →
     HoldsThroughout (LeavesOnly h (IsWithOrWithout ps p)) (log_of h ps) (appending h ps p result)
@@ -102,7 +105,8 @@ RestIsRead = (h : LogHeader) (ps : List Published) → AreNext h.version ps → 
 abbrev pub HasFailed : Result ⊤ AppendFault → Type 0
 HasFailed result = (result ≡ Err Write) ⊎ (result ≡ Err Sync)
 
--- at each moment of a cut after a failed append a crash leaves the publications from before that, with the new one or without
+-- at each moment of a cut after a failed append a crash leaves the publications from before that,
+-- with the new one or without
 abbrev pub CutIsWhole : Type 0
 CutIsWhole = (h : LogHeader) (ps : List Published) (p : Published) (failed : Result ⊤ AppendFault) (result : Result ⊤ CutFault) → MayFollow h ps p → HasFailed failed →
     HoldsThroughout (LeavesOnly h (IsWithOrWithout ps p)) (after_steps (log_of h ps) (appending h ps p failed)) (cutting h ps result)
@@ -122,7 +126,8 @@ abbrev pub RecoveryIsDone : Type 0
 RecoveryIsDone = (h : LogHeader) (ps : List Published) (torn : List ℕ) (done : ⊤) →
     after_steps (at_rest (log_bytes h ps ++ torn)) (cutting h ps (Ok done)) ≡ log_of h ps
 
--- at each moment of taking a publication back that was appended, a crash leaves the publications from before it, with that one or without
+-- at each moment of taking a publication back that was appended, a crash leaves the publications
+-- from before it, with that one or without
 abbrev pub TakenBackIsWhole : Type 0
 TakenBackIsWhole = (h : LogHeader) (ps : List Published) (p : Published) (result : Result ⊤ CutFault) → MayFollow h ps p →
     HoldsThroughout (LeavesOnly h (IsWithOrWithout ps p)) (log_of h (ps ++ p ∷ [])) (cutting h ps result)

@@ -28,7 +28,8 @@ OneEncoding = (p q : Published) → IsPublished p → IsPublished q → body_byt
 abbrev pub RefusedIsNone : Type 0
 RefusedIsNone = (fault : BodyFault) (body : List ℕ) (p : Published) → HasBodyFault fault body → IsPublished p → body ≡ body_bytes p → ⊥
 
--- what is known of the end of a log of publications: the last link, the last version, and how many bytes there are
+-- what is known of the end of a log of publications: the last link, the last version, and how many
+-- bytes there are
 pub record IsEndOf (h : LogHeader) (ps : List Published) (link : List ℕ) (version len : ℕ) : Type 0 where
   pub each : AreNext h.version ps
   pub link_is : link ≡ end_link h ps
@@ -39,15 +40,16 @@ pub record IsEndOf (h : LogHeader) (ps : List Published) (link : List ℕ) (vers
 abbrev pub FoundIsEnd : Type 0
 FoundIsEnd = (h : LogHeader) (bytes : List ℕ) (ps : List Published) (found : Found) → IsFound h bytes ps found → IsEndOf h ps found.link found.version found.len
 
--- An append of what a builder holds, to the end of a log, writes the entry of that publication, which may follow; and what an append
--- that was done leaves is the end of the log with it.
+-- An append of what a builder holds, to the end of a log, writes the entry of that publication,
+-- which may follow; and what an append that was done leaves is the end of the log with it.
 abbrev pub EndGoesOn : Type 0
 EndGoesOn = (h : LogHeader) (ps : List Published) (p : Published) (builder : PublicationBuilder) (link : List ℕ) (version len : ℕ) →
     IsEndOf h ps link version len → IsMadeOf builder p → builder.version ≡ version + 1 → builder.version < 2 ^ 64 →
     MayFollow h ps p × (entry link builder.body.items ≡ entry (end_link h ps) (body_bytes p))
     × IsEndOf h (ps ++ p ∷ []) (next_link link builder.body.items) builder.version (len + length (entry link builder.body.items))
 
--- the bytes of a log of publications that follow its snapshot are read as these and no others, to their end, and nothing is wrong with them
+-- the bytes of a log of publications that follow its snapshot are read as these and no others, to
+-- their end, and nothing is wrong with them
 abbrev pub WholeLogIsRead : Type 0
 WholeLogIsRead = (h : LogHeader) (ps : List Published) → AreNext h.version ps →
     ((qs : List Published) (found : Found) → IsFound h (log_bytes h ps) qs found → (qs ≡ ps) × (found.len ≡ length (log_bytes h ps)))

@@ -11,7 +11,8 @@ use Rattle.publication_log.specs.declared.reading.Next.{Next}
 use Rattle.publication_log.specs.Publications.{Published, IsPublished, number_bytes, body_bytes}
 use Rattle.publication_log.specs.Entries.{entry, chain_bytes, last_link, next_link, IsBody, IsTorn, HasNoEntry, HasLater}
 
--- the name of the log of a file's snapshot: the first eight bytes of its digest in hex after the file's name
+-- the name of the log of a file's snapshot: the first eight bytes of its digest in hex after the
+-- file's name
 abbrev pub log_name : List ℕ → List ℕ → List ℕ
 log_name file digest = file ++ (codes ".log-" ++ encode_lower (take 8 digest))
 

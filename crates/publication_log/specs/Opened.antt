@@ -22,7 +22,8 @@ entries_of read = entries_in read.bytes.items read.found
 abbrev pub end_of : {D : Type 0} → Log D → LogEnd
 end_of log = record { link = log.link; version = log.version; len = log.len }
 
--- Whatever the file holds: what is handed out are the entries of publications that follow the snapshot's version one after another.
+-- Whatever the file holds: what is handed out are the entries of publications that follow the
+-- snapshot's version one after another.
 pub record IsRead (h : LogHeader) (ps : List Published) (read : ReadLog) : Type 0 where
   pub each : AreNext h.version ps
   pub entries : entries_of read ≡ chain_bytes (first_link h) (bodies_of ps)

@@ -67,7 +67,8 @@ pub struct PublicationBuilder {
 }
 
 impl PublicationBuilder {
-    ghost use Rattle.publication_log.specs.Builders.{IsMadeOf, IsUnchanged, AddsChange, HasChangeFault};
+    ghost use Rattle.publication_log.specs.Builders.{IsMadeOf, IsUnchanged, AddsChange};
+    ghost use Rattle.publication_log.specs.Builders.{HasChangeFault};
 
     /// A publication without changes.
     ///

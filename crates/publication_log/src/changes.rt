@@ -45,7 +45,8 @@ const VERSION_LEN: usize = 8;
 /// How many bytes a change has before those of its record.
 pub(crate) const CHANGE_HEAD_LEN: usize = 6;
 
-/// A record's bytes from a publication on. A place that is at or past the count of the version before is an append.
+/// A record's bytes from a publication on. A place that is at or past the count of the version
+/// before is an append.
 #[derive(Clone, Copy, Debug)]
 pub struct Change<'a> {
     /// The place of the record.

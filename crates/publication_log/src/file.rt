@@ -70,13 +70,14 @@ impl<F: Write + OpenFile> Disk for LogFile<F> {
     }
 }
 
-/// Opens the log of a snapshot, or makes it. A torn end is cut off. The file and its name are sent to the device first:
-/// what a process wrote that was killed is seen, and need not be there yet. The last entry is written once more, in its place, before
-/// that: what a sync that failed has lost is still seen, and a later sync alone would not bring it. No more memory is taken than for the
+/// Opens the log of a snapshot, or makes it. A torn end is cut off. The file and its name are sent
+/// to the device first: what a process wrote that was killed is seen, and need not be there yet.
+/// The last entry is written once more, in its place, before that: what a sync that failed has lost
+/// is still seen, and a later sync alone would not bring it. No more memory is taken than for the
 /// file's bytes and its header.
 ///
-/// A new file has its header as soon as it has the name, and mode 0600. Whoever calls this has the lock of the snapshot's
-/// file, so that nobody else appends meanwhile.
+/// A new file has its header as soon as it has the name, and mode 0600. Whoever calls this has the
+/// lock of the snapshot's file, so that nobody else appends meanwhile.
 ///
 /// # Errors
 ///
@@ -109,8 +110,9 @@ pub fn open_log<R: FileSystem>(
     Ok(OpenedLog { log, read })
 }
 
-/// Reads the log of a snapshot, and changes nothing, so that another process may append to it meanwhile: an entry that is not whole
-/// yet is a torn end. `None` if nothing has the name: then no publication follows the snapshot's version.
+/// Reads the log of a snapshot, and changes nothing, so that another process may append to it
+/// meanwhile: an entry that is not whole yet is a torn end. `None` if nothing has the name: then no
+/// publication follows the snapshot's version.
 ///
 /// # Errors
 ///
@@ -136,8 +138,8 @@ pub fn read_log_file<R: FileSystem>(
     Ok(Some(ReadLog::of(bytes, &found)))
 }
 
-/// Removes the log of this name, if there is one, and sends that to the device. Whoever calls this has the lock of the file whose log
-/// it is.
+/// Removes the log of this name, if there is one, and sends that to the device. Whoever calls this
+/// has the lock of the file whose log it is.
 ///
 /// # Errors
 ///
@@ -150,8 +152,8 @@ pub fn remove_log<R: FileSystem>(rt: &R, name: &str) -> Result<(), OpenFault> {
     }
 }
 
-/// Removes the logs beside a file but the one of this name: those of snapshots that the file had before. Whoever calls this has the
-/// lock of the file.
+/// Removes the logs beside a file but the one of this name: those of snapshots that the file had
+/// before. Whoever calls this has the lock of the file.
 pub fn remove_other_logs<R: FileSystem>(rt: &R, file: &str, kept: &str) {
     remove_beside(rt, file, LOG_MARK, kept);
 }

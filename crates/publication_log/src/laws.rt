@@ -21,7 +21,8 @@ ghost use Rattle.publication_log.specs.Laws.{
   WholeLogIsRead,
 };
 
-/// However an append ends, a crash at any moment of it leaves the publications from before it, with the new one or without.
+/// However an append ends, a crash at any moment of it leaves the publications from before it, with
+/// the new one or without.
 pub fn each_moment_is_whole()
     ensures { EachMomentIsWhole }
 {}
@@ -36,8 +37,8 @@ pub fn rest_is_read()
     ensures { RestIsRead }
 {}
 
-/// However a cut after a failed append ends, a crash at any moment of it leaves the publications from before that
-/// append, with the new one or without.
+/// However a cut after a failed append ends, a crash at any moment of it leaves the publications
+/// from before that append, with the new one or without.
 pub fn cut_is_whole()
     ensures { CutIsWhole }
 {}
@@ -47,7 +48,8 @@ pub fn cut_is_old()
     ensures { CutIsOld }
 {}
 
-/// However a cut of a torn end ends, a crash at any moment of it leaves the publications before that end.
+/// However a cut of a torn end ends, a crash at any moment of it leaves the publications before
+/// that end.
 pub fn recovery_is_whole()
     ensures { RecoveryIsWhole }
 {}
@@ -57,7 +59,8 @@ pub fn recovery_is_done()
     ensures { RecoveryIsDone }
 {}
 
-/// However taking a publication back ends, a crash at any moment of it leaves the publications from before it, with that one or without.
+/// However taking a publication back ends, a crash at any moment of it leaves the publications from
+/// before it, with that one or without.
 pub fn taken_back_is_whole()
     ensures { TakenBackIsWhole }
 {}
@@ -82,7 +85,8 @@ pub fn one_encoding()
     ensures { OneEncoding }
 {}
 
-/// Bytes with a fault are no publication's: with [`one_encoding`], what is made of a publication is decoded as that publication.
+/// Bytes with a fault are no publication's: with [`one_encoding`], what is made of a publication is
+/// decoded as that publication.
 pub fn refused_is_none()
     ensures { RefusedIsNone }
 {}
@@ -92,14 +96,15 @@ pub fn found_is_end()
     ensures { FoundIsEnd }
 {}
 
-/// [`Log::append`](crate::Log::append) of what a builder holds, to the end of a log, writes the entry of that
-/// publication, and what an append leaves that was done is the end of the log with that publication.
+/// [`Log::append`](crate::Log::append) of what a builder holds, to the end of a log, writes the
+/// entry of that publication, and what an append leaves that was done is the end of the log with
+/// that publication.
 pub fn end_goes_on()
     ensures { EndGoesOn }
 {}
 
-/// What [`read_log`](crate::read_log) finds in the bytes of a log, as [`relinked`](crate::relinked) makes them, are exactly its
-/// publications.
+/// What [`read_log`](crate::read_log) finds in the bytes of a log, as [`relinked`](crate::relinked)
+/// makes them, are exactly its publications.
 pub fn whole_log_is_read()
     ensures { WholeLogIsRead }
 {}

@@ -1,17 +1,20 @@
-//! The log of publications: a file beside a snapshot, to which each publication after the snapshot's version is appended.
+//! The log of publications: a file beside a snapshot, to which each publication after the
+//! snapshot's version is appended.
 //!
-//! A log has a header, which ties it to its snapshot, and an entry for each publication: the length of a body, the body,
-//! and a link, which is the SHA-256 digest (FIPS 180-4) of the link before it, the length and the body. So no entry can be
-//! moved within a log or to another. `specs/Publications.antt` defines bodies, `specs/Entries.antt` entries,
-//! `specs/Logs.antt` what a reader makes of bytes, and `specs/Crashes.antt` what a crash leaves. That a file to whose end
-//! was written keeps a prefix of what was written since its last sync, or bytes in which no entry is, is the system's
-//! promise and nothing that is proved here.
+//! A log has a header, which ties it to its snapshot, and an entry for each publication: the length
+//! of a body, the body, and a link, which is the SHA-256 digest (FIPS 180-4) of the link before it,
+//! the length and the body. So no entry can be moved within a log or to another.
+//! `specs/Publications.antt` defines bodies, `specs/Entries.antt` entries, `specs/Logs.antt` what a
+//! reader makes of bytes, and `specs/Crashes.antt` what a crash leaves. That a file to whose end
+//! was written keeps a prefix of what was written since its last sync, or bytes in which no entry
+//! is, is the system's promise and nothing that is proved here.
 //!
-//! A log is opened by [`open_log`], which cuts a torn end off; its publications are read by [`Publications`] and
-//! [`Changes`], one after another. [`PublicationBuilder`] makes the next one, and [`Log::append`] appends it. [`relinked`] makes
-//! the log of a later snapshot of the last publications.
+//! A log is opened by [`open_log`], which cuts a torn end off; its publications are read by
+//! [`Publications`] and [`Changes`], one after another. [`PublicationBuilder`] makes the next one,
+//! and [`Log::append`] appends it. [`relinked`] makes the log of a later snapshot of the last
+//! publications.
 //!
-//! Its tests are in tests/long/publication_log and in `frame_tests`.
+//! Its tests are in tests/long/publication_log and in `tests_frame`.
 #![tactic(auto)]
 
 mod builder;

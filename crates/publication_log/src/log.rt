@@ -17,7 +17,8 @@ ghost use Rattle.std.specs.Prelude.{
   length,
 };
 ghost use Rattle.publication_log.specs.Entries.{entry, next_link};
-ghost use Rattle.publication_log.specs.Steps.{Step, write_step, sync_step, truncate_step, Appends, Cuts, Recovers, is_torn_after, is_torn_after_cut};
+ghost use Rattle.publication_log.specs.Steps.{Step, write_step, sync_step, truncate_step, Appends};
+ghost use Rattle.publication_log.specs.Steps.{Cuts, Recovers, is_torn_after, is_torn_after_cut};
 ghost use Rattle.publication_log.specs.Opened.{end_of};
 
 use crate::builder::PublicationBuilder;
@@ -117,7 +118,8 @@ pub struct Log<D: Disk> {
 }
 
 impl<D: Disk + Drop> Log<D> {
-    /// The log that was found in a file of `all` bytes. What is after the bytes found is a torn end, and is cut off.
+    /// The log that was found in a file of `all` bytes. What is after the bytes found is a torn
+    /// end, and is cut off.
     ///
     /// # Errors
     ///
@@ -157,12 +159,14 @@ impl<D: Disk> Log<D> {
         }
     }
 
-    /// Appends the publication of the next version: writes its entry, and sends it to the device. `Ok` comes only after both.
+    /// Appends the publication of the next version: writes its entry, and sends it to the device.
+    /// `Ok` comes only after both.
     ///
     /// # Errors
     ///
-    /// Each exactly when its cause was there or its step failed; no further step is then taken. After `Write` and `Sync` a
-    /// part of the entry, or all of it, may be in the file: [`Log::cut`] comes before the next append.
+    /// Each exactly when its cause was there or its step failed; no further step is then taken.
+    /// After `Write` and `Sync` a part of the entry, or all of it, may be in the file: [`Log::cut`]
+    /// comes before the next append.
     pub fn append(
         &mut self,
         alloc: Global,
@@ -205,7 +209,8 @@ impl<D: Disk> Log<D> {
         Ok(())
     }
 
-    /// Cuts off what a failed append left, and sends the cut to the device: the log is again as before that append.
+    /// Cuts off what a failed append left, and sends the cut to the device: the log is again as
+    /// before that append.
     ///
     /// # Errors
     ///
@@ -227,7 +232,8 @@ impl<D: Disk> Log<D> {
         Ok(())
     }
 
-    /// Takes back what was appended since the log had this end: cuts it off, and sends the cut to the device.
+    /// Takes back what was appended since the log had this end: cuts it off, and sends the cut to
+    /// the device.
     ///
     /// # Errors
     ///

@@ -25,7 +25,8 @@ ghost use Rattle.std.specs.Prelude.{
   IsSomeAnd,
 };
 ghost use Rattle.sha2.specs.Sha256.{sha256};
-ghost use Rattle.publication_log.specs.Publications.{Published, IsPublished, changes_bytes, body_bytes};
+ghost use Rattle.publication_log.specs.Publications.{Published, IsPublished, changes_bytes};
+ghost use Rattle.publication_log.specs.Publications.{body_bytes};
 ghost use Rattle.publication_log.specs.Entries.{chain_bytes, last_link, next_link, IsTorn};
 ghost use Rattle.publication_log.specs.Logs.{
   bodies_of,
@@ -126,8 +127,8 @@ impl Found {
 }
 
 impl<'a> Publications<'a> {
-    /// The first publication, and those after it; `None` when there are no more. No digest is looked at again: these are
-    /// the entries that [`read_log`] found.
+    /// The first publication, and those after it; `None` when there are no more. No digest is
+    /// looked at again: these are the entries that [`read_log`] found.
     pub fn split_first(self) -> Option<(Publication<'a>, Publications<'a>)>
         ensures some { (link : List ℕ) (p : Published) (ps : List Published) → IsPublished p →
             self.entry.rest.now ≡ chain_bytes link (bodies_of (p ∷ ps)) →
@@ -198,7 +199,8 @@ fn is_next(version: u64, other: u64) -> bool
     version < other && other - version == 1
 }
 
-// The publication whose entry is at the start, after a link and a version; `None` at the end of a log.
+// The publication whose entry is at the start, after a link and a version; `None` at the end of a
+// log.
 fn next_at<'a>(link: &[u8], version: u64, rest: &'a [u8]) -> Result<Option<Next<'a>>, BadLog>
     ensures some { IfOk result (λ found. IfSome found (λ it. (p : Published) ×
         IsNext link.now version rest.now p it)) }
@@ -273,8 +275,8 @@ fn after_header<'a>(header: &[u8], bytes: &'a [u8]) -> Option<&'a [u8]>
 
 /// Reads the log of a snapshot. No more memory is taken than for the header's bytes.
 ///
-/// What is after `len` bytes of the result is a torn end: no whole entry is at its start or later in it. Of bytes with
-/// one of the causes of [`BadLog`] nothing is to be cut off.
+/// What is after `len` bytes of the result is a torn end: no whole entry is at its start or later
+/// in it. Of bytes with one of the causes of [`BadLog`] nothing is to be cut off.
 ///
 /// # Errors
 ///

@@ -10,9 +10,9 @@ use crate::header::LogHeader;
 use crate::reading::{Publications, link_of};
 use std::alloc::{AllocError, Global};
 
-/// The bytes of a log of these publications with another header: the same bodies, linked anew from the new header on. The
-/// publications are to follow the version of its snapshot, as the last 16 of a log follow a snapshot of 16 versions before
-/// the last one.
+/// The bytes of a log of these publications with another header: the same bodies, linked anew from
+/// the new header on. The publications are to follow the version of its snapshot, as the last 16 of
+/// a log follow a snapshot of 16 versions before the last one.
 ///
 /// # Errors
 ///
@@ -36,7 +36,8 @@ pub fn relinked(
     Ok(bytes)
 }
 
-// Adds the entry of a body, and answers the link after it. After an `Err` a part of the entry may be there.
+// Adds the entry of a body, and answers the link after it. After an `Err` a part of the entry may
+// be there.
 fn push_entry(
     bytes: &mut Vec<u8>,
     link: &[u8; LINK_LEN],

@@ -16,7 +16,7 @@ use Rattle.server_core.specs.declared.standing.Standing.{Standing}
 use Rattle.server_core.specs.declared.standing.Standing.TheVariants.{Stranger, Publisher}
 use Rattle.server_core.specs.Serving.{Setting, ServesAll}
 use Rattle.publication_push.specs.Orders.{Ordered, frame_of, done_version, orders_of}
-use Rattle.publication_push.specs.Pushes.{want_of}
+use Rattle.publication_push.specs.Pushes.{call_of}
 
 -- the frames of a push
 abbrev pub push_frames : ℕ → List Published → List Frame
@@ -31,12 +31,14 @@ abbrev pub done_versions : ℕ → List Ordered → List ℕ
 done_versions before [] = []
 done_versions before (o ∷ os) = done_version before o ∷ done_versions (done_version before o) os
 
--- A server that has no draft was sent the orders of some publications in a publisher's session, and each reply was a Done.
+-- A server that has no draft was sent the orders of some publications in a publisher's session, and
+-- each reply was a Done.
 pub record IsPushed (x : Setting) (h : History) (ps : List Published) (versions : List ℕ) (new : History) (standing : Standing) : Type 0 where
   pub undrafted : h.draft ≡ h.current
   pub served : ServesAll x h Publisher (push_frames (length h.current) ps) new standing (dones versions)
 
--- Then its history is the one that these publications make of what it was before, and the session goes on.
+-- Then its history is the one that these publications make of what it was before, and the session
+-- goes on.
 pub record IsAtTheLog (h : History) (ps : List Published) (new : History) (standing : Standing) : Type 0 where
   pub history : new ≡ history_replayed_all ps h
   pub version : current_version new ≡ current_version h + length ps
@@ -52,14 +54,14 @@ abbrev pub DonesNameTheLog : Type 0
 DonesNameTheLog = (x : Setting) (h : History) (ps : List Published) (versions : List ℕ) (new : History) (standing : Standing) →
     AreNext (current_version h) ps → IsPushed x h ps versions new standing → versions ≡ done_versions (current_version h) (orders_of (length h.current) ps)
 
--- A server that has the history of a log's earlier publications, and of which each reply to the orders of the later ones was a Done,
--- has the history of the whole log.
+-- A server that has the history of a log's earlier publications, and of which each reply to the
+-- orders of the later ones was a Done, has the history of the whole log.
 abbrev pub PushesAddUp : Type 0
 PushesAddUp = (x : Setting) (h : History) (earlier later : List Published) (versions : List ℕ) (new : History) (standing : Standing) →
     IsPushed x (history_replayed_all earlier h) later versions new standing → new ≡ history_replayed_all (earlier ++ later) h
 
--- A server that has no draft was sent a greeting and then the orders of some publications, as a session's first frames. Whatever the
--- greeting was answered, each reply after that was a Done.
+-- A server that has no draft was sent a greeting and then the orders of some publications, as a
+-- session's first frames. Whatever the greeting was answered, each reply after that was a Done.
 pub record IsGreetedAndPushed (x : Setting) (h : History) (ps : List Published) (versions : List ℕ) (new : History) (standing : Standing) : Type 0 where
   pub profile : ℕ
   pub key : List ℕ
@@ -74,9 +76,9 @@ SessionIsReplayed = (x : Setting) (h : History) (ps : List Published) (versions 
 
 -- the bytes of the call that an order is are those of the order's frame
 abbrev pub CallsSendTheirFrames : Type 0
-CallsSendTheirFrames = (old new : ClientState) (o : Ordered) (bytes : List ℕ) → Accepts old (want_of o) new bytes → bytes ≡ encoding (frame_of o)
+CallsSendTheirFrames = (old new : ClientState) (o : Ordered) (bytes : List ℕ) → Accepts old (call_of o) new bytes → bytes ≡ encoding (frame_of o)
 
 -- a client that made the call of an order reports nothing but a Done as a Done, and its version
 abbrev pub DonesAreReplies : Type 0
 DonesAreReplies = (c : ClientState) (o : Ordered) (reply : Frame) (version : ℕ) →
-    (reaction_to_reply (state_after_call (want_of o) c) reply).reaction ≡ Reports (event.Done version) → reply ≡ Done version
+    (reaction_to_reply (state_after_call (call_of o) c) reply).reaction ≡ Reports (event.Done version) → reply ≡ Done version

@@ -12,7 +12,8 @@ use Rattle.publication_push.specs.declared.orders.Order.{Order}
 use Rattle.publication_push.specs.declared.orders.Order.TheVariants as order
 use Rattle.publication_push.specs.declared.orders.Orders.{Orders}
 
--- what a server is asked for: bytes for a record, a record more, or that the changes before become this version
+-- what a server is asked for: bytes for a record, a record more, or that the changes before become
+-- this version
 pub data Ordered : Type 0 where
   Edits : (place : ℕ) (bytes : List ℕ) → Ordered
   Appends : (bytes : List ℕ) → Ordered
@@ -30,7 +31,8 @@ frame_of (Edits place bytes) = frame.Edit place bytes
 frame_of (Appends bytes) = frame.Append bytes
 frame_of (Publishes version) = frame.Publish
 
--- the version that the Done to it is to name, if the server is at this one before: an edit and an append leave the version
+-- the version that the Done to it is to name, if the server is at this one before: an edit and an
+-- append leave the version
 abbrev pub done_version : ℕ → Ordered → ℕ
 done_version before (Publishes version) = version
 done_version before _ = before
@@ -53,7 +55,8 @@ abbrev pub count_after_all : ℕ → List Placed → ℕ
 count_after_all count [] = count
 count_after_all count (c ∷ cs) = count_after_all (count_after count c) cs
 
--- what a server of so many records that lacks these publications is asked for: of each its changes, and then that they become its version
+-- what a server of so many records that lacks these publications is asked for: of each its changes,
+-- and then that they become its version
 abbrev pub orders_of : ℕ → List Published → List Ordered
 orders_of count [] = []
 orders_of count (p ∷ ps) = change_orders count p.changes ++ (Publishes p.version ∷ orders_of (count_after_all count p.changes) ps)

@@ -6,7 +6,7 @@ use Rattle.client_core.specs.declared.state.ClientFault.{ClientFault}
 use Rattle.client_core.specs.declared.state.Event.{Event}
 use Rattle.client_core.specs.declared.state.Event.TheVariants.{Welcomed, Done, Refused}
 use Rattle.client_core.specs.declared.state.ServerInfo.{ServerInfo}
-use Rattle.client_core.specs.Calls.{Want, Edit, Append, Publish, Accepts, Refuses}
+use Rattle.client_core.specs.Calls.{ClientCall, Edit, Append, Publish, Accepts, Refuses}
 use Rattle.client_core.specs.Feeding.{Client, FeedsClient}
 use Rattle.publication_push.specs.declared.fault.PushFault.{PushFault}
 use Rattle.publication_push.specs.declared.fault.PushFault.TheVariants as fault
@@ -15,17 +15,18 @@ use Rattle.publication_push.specs.declared.push.PushStep.{PushStep}
 use Rattle.publication_push.specs.declared.push.PushStep.TheVariants.{Waits, Sends, Greeted, Pushed}
 use Rattle.publication_push.specs.Orders.{Ordered, Edits, Appends, Publishes, done_version, orders_of, HasOrders}
 
--- a push as contracts see it: the client, the orders that are left, and the version that the next Done is to name
+-- a push as contracts see it: the client, the orders that are left, and the version that the next
+-- Done is to name
 pub record Pushing : Type 0 where
   pub client : Client
   pub orders : Orders
   pub awaited : ℕ
 
 -- the call that asks a server for this
-abbrev pub want_of : Ordered → Want
-want_of (Edits place bytes) = Edit place bytes
-want_of (Appends bytes) = Append bytes
-want_of (Publishes version) = Publish
+abbrev pub call_of : Ordered → ClientCall
+call_of (Edits place bytes) = Edit place bytes
+call_of (Appends bytes) = Append bytes
+call_of (Publishes version) = Publish
 
 -- the bytes of an order's record
 abbrev pub order_bytes : Ordered → List ℕ
@@ -35,23 +36,26 @@ order_bytes (Publishes version) = []
 
 -- why an order was not sent: the client refused the call, or its record is none of a log
 abbrev pub IsUnsent : Client → Ordered → PushFault → Client → Type 0
-IsUnsent client o (fault.Call why) new = Refuses client.state (want_of o) why new.state
+IsUnsent client o (fault.Call why) new = Refuses client.state (call_of o) why new.state
 IsUnsent client o fault.BadLog new = (new ≡ client) × (65535 < length (order_bytes o))
 IsUnsent client o _ new = ⊥
 
--- what came of sending the next order: its bytes are given, and the version of its Done is awaited; or the client refused the call
+-- what came of sending the next order: its bytes are given, and the version of its Done is awaited;
+-- or the client refused the call
 abbrev pub IsNextSent : Client → ℕ → Ordered → List Ordered → Result PushStep PushFault → Pushing → Type 0
 IsNextSent client awaited o others (Ok (Sends bytes)) new =
-    Accepts client.state (want_of o) new.client.state bytes.items × HasOrders new.orders others × (new.awaited ≡ done_version awaited o)
-IsNextSent client awaited o others (Err (fault.Call why)) new = Refuses client.state (want_of o) why new.client.state
+    Accepts client.state (call_of o) new.client.state bytes.items × HasOrders new.orders others × (new.awaited ≡ done_version awaited o)
+IsNextSent client awaited o others (Err (fault.Call why)) new = Refuses client.state (call_of o) why new.client.state
 IsNextSent client awaited o others _ new = ⊥
 
--- the first of the orders that were left is sent by a client, after this version; or none was left, and all is pushed
+-- the first of the orders that were left is sent by a client, after this version; or none was left,
+-- and all is pushed
 abbrev pub GoesOn : Client → ℕ → List Ordered → Result PushStep PushFault → Pushing → Type 0
 GoesOn client awaited [] result new = (result ≡ Ok (Pushed awaited)) × (new.client ≡ client)
 GoesOn client awaited (o ∷ others) result new = IsNextSent client awaited o others result new × (new.client.reader ≡ client.reader)
 
--- what begins a push of these publications: their first order, by the count and the version that the server reported
+-- what begins a push of these publications: their first order, by the count and the version that
+-- the server reported
 abbrev pub Begins : Client → Option ServerInfo → List Published → Result PushStep PushFault → Pushing → Type 0
 Begins client None ps result new = result ≡ Err (fault.Call NotReady)
 Begins client (Some known) ps result new = GoesOn client known.version (orders_of known.count ps) result new
@@ -65,7 +69,8 @@ greeted (Some known) = Ok (Greeted known)
 abbrev pub Answers : Pushing → Result PushStep PushFault → Result PushStep PushFault → Pushing → Type 0
 Answers old answer result new = (result ≡ answer) × (new ≡ old)
 
--- what comes of a reply's event: the awaited Done is followed by what is next, and each other one but the Welcome ends the push
+-- what comes of a reply's event: the awaited Done is followed by what is next, and each other one
+-- but the Welcome ends the push
 abbrev pub Takes : Pushing → List Ordered → Event → Result PushStep PushFault → Pushing → Type 0
 Takes old left (Welcomed version) result new = Answers old (greeted old.client.state.known) result new
 Takes old left (Done named) result new =

@@ -19,7 +19,8 @@ pub enum Lack {
     After(usize),
 }
 
-/// What a server lacks that was greeted, of the publications after version `since` up to the current one.
+/// What a server lacks that was greeted, of the publications after version `since` up to the
+/// current one.
 pub fn lack_of(plan: &Plan, since: u64, current: u64, known: &ServerInfo) -> Lack
     ensures { IsLack plan.now since current known.now result }
 {

@@ -5,7 +5,9 @@ ghost use Rattle.publication_log.specs.Publications.{Placed, Published, changes_
 ghost use Rattle.publication_log.specs.Entries.{chain_bytes};
 ghost use Rattle.publication_log.specs.Logs.{bodies_of, AreNext};
 ghost use Rattle.log_replay.specs.Replays.{count_after};
-ghost use Rattle.publication_push.specs.Orders.{Ordered, ordered_of, orders_of, placed_of, HasOrders, AreLeft, AreEntries, begun_orders, change_order};
+ghost use Rattle.publication_push.specs.Orders.{Ordered, ordered_of, orders_of, placed_of};
+ghost use Rattle.publication_push.specs.Orders.{HasOrders, AreLeft, AreEntries, begun_orders};
+ghost use Rattle.publication_push.specs.Orders.{change_order};
 
 use publication_log::{Change, Publication, Publications};
 

@@ -4,10 +4,10 @@ ghost use Rattle.std.specs.Prelude.{◌≡◌, [], ℕ, List, IfOk, IfErr};
 ghost use Rattle.publication_log.specs.Publications.{Published};
 ghost use Rattle.publication_log.specs.Entries.{chain_bytes};
 ghost use Rattle.publication_log.specs.Logs.{bodies_of, AreNext};
-ghost use Rattle.client_core.specs.Calls.{Want, Accepts, Refuses};
+ghost use Rattle.client_core.specs.Calls.{ClientCall, Accepts, Refuses};
 ghost use Rattle.publication_push.specs.Orders.{Ordered, ordered_of, done_version, HasOrders};
 ghost use Rattle.publication_push.specs.Pushes.{
-  want_of,
+  call_of,
   greeted,
   IsUnsent,
   GoesOn,
@@ -34,15 +34,15 @@ pub enum PushStep {
     Waits,
     /// These bytes are to be sent.
     Sends(Vec<u8>),
-    /// The server took the publisher's greeting, and has this plan, this version and so many records. The push begins, if
-    /// they are those of a version of the log.
+    /// The server took the publisher's greeting, and has this plan, this version and so many
+    /// records. The push begins, if they are those of a version of the log.
     Greeted(ServerInfo),
     /// All is done: the server is at this version.
     Pushed(u64),
 }
 
-/// A push to one server, without a connection. Contracts see its client, the orders that are left, and the version that the
-/// next Done is to name.
+/// A push to one server, without a connection. Contracts see its client, the orders that are left,
+/// and the version that the next Done is to name.
 #[derive(Drop)]
 pub struct Push<'a, K: Kernel> {
     client: ClientCore<K>,
@@ -78,22 +78,22 @@ impl<'a, K: Kernel> Push<'a, K> {
     /// `Call` with the client's refusal: the server let it in already, or memory was refused.
     pub fn greet(&mut self, key: [u8; 32]) -> Result<Vec<u8>, PushFault>
         ensures accepted { IfOk result (λ bytes. Accepts self.old.client.state
-            (Want.Hello key) self.new.client.state bytes.items) }
+            (ClientCall.Hello key) self.new.client.state bytes.items) }
         ensures refused { IfErr result (λ fault. (why : CallFault) × (fault ≡ PushFault.Call why) ×
-            Refuses self.old.client.state (Want.Hello key) why self.new.client.state) }
+            Refuses self.old.client.state (ClientCall.Hello key) why self.new.client.state) }
         ensures reader { self.new.client.reader ≡ self.old.client.reader }
         ensures orders { self.new.orders ≡ self.old.orders }
     {
         Ok(self.client.hello(key)?)
     }
 
-    /// Begins with the publications that the server lacks, once it took the greeting: those after its version. Gives what
-    /// is to be sent first; if there are no publications, all is pushed.
+    /// Begins with the publications that the server lacks, once it took the greeting: those after
+    /// its version. Gives what is to be sent first; if there are no publications, all is pushed.
     ///
     /// # Errors
     ///
-    /// `Call` with the client's refusal: there was no Welcome yet, or memory was refused. `BadLog`, if these are no
-    /// publications of a log.
+    /// `Call` with the client's refusal: there was no Welcome yet, or memory was refused. `BadLog`,
+    /// if these are no publications of a log.
     pub fn begin(&mut self, publications: Publications<'a>) -> Result<PushStep, PushFault>
         ensures { (link : List ℕ) (version : ℕ) (ps : List Published) → AreNext version ps →
             publications.entry.rest.now ≡ chain_bytes link (bodies_of ps) →
@@ -111,9 +111,11 @@ impl<'a, K: Kernel> Push<'a, K> {
     ///
     /// # Errors
     ///
-    /// `Client` with the client's fault; `Refused` with the code of a refusal; `WrongVersion` if another version is named as done
-    /// than the one awaited; `NotDone` if the reply is another; `Call` if the client did not make the next call. The push is of no
-    /// more use then. What was published before stays published, and what was edited or appended since stays in the server's draft.
+    /// `Client` with the client's fault; `Refused` with the code of a refusal; `WrongVersion` if
+    /// another version is named as done than the one awaited; `NotDone` if the reply is another;
+    /// `Call` if the client did not make the next call. The push is of no more use then. What was
+    /// published before stays published, and what was edited or appended since stays in the
+    /// server's draft.
     pub fn feed(&mut self, piece: &[u8]) -> Result<PushStep, PushFault>
         ensures { (left : List Ordered) → HasOrders self.old.orders left →
             IsFed self.old left piece.now result self.new }
@@ -182,8 +184,8 @@ impl<'a, K: Kernel> Push<'a, K> {
         }
     }
 
-    /// The client, which may go on in the same session: by a sync and by asks for some records the version that the server has
-    /// can be compared with that of the log.
+    /// The client, which may go on in the same session: by a sync and by asks for some records the
+    /// version that the server has can be compared with that of the log.
     pub fn into_client(self) -> ClientCore<K>
         ensures { result ≡ self.entry.client }
     {
@@ -203,7 +205,7 @@ fn done_version(before: u64, order: Order<'_>) -> u64
 
 // Asks a server for this. Gives the bytes to send.
 fn ask<K: Kernel>(client: &mut ClientCore<K>, order: Order<'_>) -> Result<Vec<u8>, PushFault>
-    ensures sent { IfOk result (λ bytes. Accepts client.old.state (want_of (ordered_of order.entry))
+    ensures sent { IfOk result (λ bytes. Accepts client.old.state (call_of (ordered_of order.entry))
         client.new.state bytes.items) }
     ensures unsent { IfErr result
         (λ why. IsUnsent client.old (ordered_of order.entry) why client.new) }

@@ -12,7 +12,8 @@ use Rattle.publisher_drafts.specs.declared.judging.EditFault.TheVariants.{BadInd
 abbrev pub edit_verdict : Plan → ℕ → ℕ → List ℕ → Result ℕ EditFault
 edit_verdict plan count index bytes = if nat_lt index count then (if fits plan bytes then Ok index else Err BadLength) else Err BadIndex
 
--- the place of a record after the last one, which has four bytes in a publication, or why there can be none
+-- the place of a record after the last one, which has four bytes in a publication, or why there can
+-- be none
 abbrev pub append_verdict : Plan → ℕ → List ℕ → Result ℕ EditFault
 append_verdict plan count bytes =
     if fits plan bytes then (if nat_lt count (2 ^ 32) && is_layout (shape_at plan (count + 1)) then Ok count else Err Full) else Err BadLength

@@ -14,7 +14,8 @@ is_mark b = (b == 32) || (b == 44)
 abbrev pub words_in : List ℕ → Option (List ℕ × List ℕ)
 words_in line = option_map (λ at. (take at line, drop (at + 1) line)) (position is_mark line)
 
--- a word names a target: a number of decimal digits the record of that index, and a plus one after the last
+-- a word names a target: a number of decimal digits the record of that index, and a plus one after
+-- the last
 abbrev pub IsTarget : List ℕ → Target → Type 0
 IsTarget word (At index) = IsNumeral 10 word × (digits_value 10 word ≡ index)
 IsTarget word End = word ≡ codes "+"

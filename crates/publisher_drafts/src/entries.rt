@@ -1,10 +1,12 @@
 //! The entries of a draft, merged.
 
-ghost use Rattle.std.specs.Prelude.{◌≡◌, ◌↔◌, ℕ, List, [], IfOk, OnOk, IsErrOf, Some, None, if◌then◌else◌, true, false};
+ghost use Rattle.std.specs.Prelude.{◌≡◌, ◌↔◌, ℕ, List, [], IfOk, OnOk, IsErrOf, Some, None};
+ghost use Rattle.std.specs.Prelude.{if◌then◌else◌, true, false};
 ghost use Rattle.publication_log.specs.Publications.{Published};
 ghost use Rattle.publication_log.specs.Entries.{chain_bytes};
 ghost use Rattle.publication_log.specs.Logs.{AreNext, bodies_of};
-ghost use Rattle.publisher_drafts.specs.Merging.{changes_in, merged_all, are_entries_of, count_after_entries};
+ghost use Rattle.publisher_drafts.specs.Merging.{changes_in, merged_all, are_entries_of};
+ghost use Rattle.publisher_drafts.specs.Merging.{count_after_entries};
 
 use crate::changes::{ChangeMap, put_entry};
 use crate::judging::judge_entry;
@@ -45,11 +47,13 @@ impl From<AllocError> for MergeFault {
     }
 }
 
-/// The changes of entries to so many records, merged. [`merged_alike`] says what they make of records.
+/// The changes of entries to so many records, merged. [`merged_alike`] says what they make of
+/// records.
 ///
 /// # Errors
 ///
-/// `BadEntry` exactly when a change of one can't be made after those before it; else they are merged, or `Memory`.
+/// `BadEntry` exactly when a change of one can't be made after those before it; else they are
+/// merged, or `Memory`.
 pub fn merge_entries(
     alloc: Global,
     plan: &Plan,
@@ -77,7 +81,8 @@ pub fn merge_entries(
     Ok(Merged { changes, count })
 }
 
-// How many records there are after entries, one after another; `None` if a change of one can't be made.
+// How many records there are after entries, one after another; `None` if a change of one can't be
+// made.
 fn judge_entries(plan: &Plan, count: usize, entries: Publications<'_>) -> Option<usize>
     ensures { (link : List ℕ) (version : ℕ) (ps : List Published) → AreNext version ps →
         entries.entry.rest.now ≡ chain_bytes link (bodies_of ps) →

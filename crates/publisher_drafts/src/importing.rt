@@ -42,7 +42,8 @@ impl From<AllocError> for ImportStop {
     }
 }
 
-/// The changes that lines ask for, of so many records, one after another. The last line may lack its line feed.
+/// The changes that lines ask for, of so many records, one after another. The last line may lack
+/// its line feed.
 ///
 /// # Errors
 ///
@@ -53,7 +54,7 @@ pub fn changes_of_lines(
     count: usize,
     text: &[u8],
 ) -> Result<ChangeMap, ImportStop> {
-    let mut taken = Taken {
+    let mut taken = Importing {
         changes: BTreeMap::new(alloc),
         count,
     };
@@ -69,7 +70,8 @@ pub fn changes_of_lines(
     Ok(taken.changes)
 }
 
-// The first line without its line feed, which the last one may lack, and what is after it; `None` if there is none.
+// The first line without its line feed, which the last one may lack, and what is after it; `None`
+// if there is none.
 fn first_line(text: &[u8]) -> Option<(&[u8], &[u8])>
     ensures shorter { IfSome result (λ it. length it.1.now < length text.now) }
 {
@@ -84,12 +86,12 @@ fn first_line(text: &[u8]) -> Option<(&[u8], &[u8])>
 
 // The changes of the lines before one, and how many records there are after them.
 #[derive(Drop)]
-struct Taken {
+struct Importing {
     changes: ChangeMap,
     count: usize,
 }
 
-impl Taken {
+impl Importing {
     // Takes up a line, the number of which is counted from 0.
     fn take_line(
         &mut self,

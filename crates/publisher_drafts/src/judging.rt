@@ -112,7 +112,8 @@ pub fn count_after(count: usize, place: u32) -> usize
     }
 }
 
-/// How many records there are after changes, one after another; `None` if one of them can't be made.
+/// How many records there are after changes, one after another; `None` if one of them can't be
+/// made.
 pub fn judge_entry(plan: &Plan, count: usize, changes: Changes<'_>) -> Option<usize>
     ensures { (low : ℕ) (cs : List Placed) → AreChanges low cs →
         changes.entry.rest.now ≡ changes_bytes cs →

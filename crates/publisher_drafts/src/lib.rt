@@ -1,7 +1,8 @@
 //! Drafts of a publisher: the changes of their entries, merged, judged, read of lines and printed.
 //!
-//! `specs/Merging.antt` defines merging, and [`laws`] says what it keeps: one publication of the merged changes gives the records that the entries give,
-//! one after another. `specs/Judging.antt` says which change can be made.
+//! `specs/Merging.antt` defines merging, and [`laws`] says what it keeps: one publication of the
+//! merged changes gives the records that the entries give, one after another. `specs/Judging.antt`
+//! says which change can be made.
 //!
 //! Its tests are in `tests/publisher`.
 #![tactic(auto)]

@@ -1,6 +1,7 @@
 //! The lines of an import.
 
-ghost use Rattle.std.specs.Prelude.{◌≡◌, IfOk, IfSome, MatchOption, None, Some, ◌<◌, length, position};
+ghost use Rattle.std.specs.Prelude.{◌≡◌, IfOk, IfSome, MatchOption, None, Some, ◌<◌, length};
+ghost use Rattle.std.specs.Prelude.{position};
 ghost use Rattle.publisher_drafts.specs.Lines.{IsLine, IsTarget, is_mark, words_in};
 
 use crate::judging::Target;
@@ -25,8 +26,8 @@ pub fn is_title(number: u64, line: &[u8]) -> bool {
     number == 0 && line == TITLE
 }
 
-/// Reads a line: an index in decimal digits or `+`, one space or comma, and the record in hex, or `-` if it has no bytes. `None` if the line is
-/// none of these.
+/// Reads a line: an index in decimal digits or `+`, one space or comma, and the record in hex, or
+/// `-` if it has no bytes. `None` if the line is none of these.
 ///
 /// # Errors
 ///

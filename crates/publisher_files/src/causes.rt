@@ -26,7 +26,8 @@ fn bad_draft(rt: &HostRuntime, dir: &str, failure: Failure) -> Failed {
         Ok(name) => {
             let name = name.as_str();
             format!(in rt.alloc();
-                "{name}: damaged, or a draft of another store or version; remove it to begin a new one"
+                "{name}: damaged, or a draft of another store or version; remove it to begin a new \
+                    one"
             )
         }
         Err(refused) => Err(refused),

@@ -13,16 +13,18 @@ use publisher_drafts::{appended_line, changed_line};
 use safe_files::FileSystem;
 use std::alloc::{AllocError, Global};
 
-/// How often a folder is read whose draft is none of its version, since another process may have published meanwhile.
+/// How often a folder is read whose draft is none of its version, since another process may have
+/// published meanwhile.
 const TRIES: u32 = 3;
 
-/// Prints what a folder's draft changes of the current version, a line for each record: its index, its bytes, and those that it has in the
-/// draft; of an appended one `+`, and its bytes.
+/// Prints what a folder's draft changes of the current version, a line for each record: its index,
+/// its bytes, and those that it has in the draft; of an appended one `+`, and its bytes.
 ///
 /// # Errors
 ///
-/// In this order: `File` if the folder has no snapshot, those of the snapshot, of its log (`File`, `BadLog`) and of the draft (`File`,
-/// `BadDraft`), and `Write` if the lines can't be printed. `Memory` where there was none.
+/// In this order: `File` if the folder has no snapshot, those of the snapshot, of its log (`File`,
+/// `BadLog`) and of the draft (`File`, `BadDraft`), and `Write` if the lines can't be printed.
+/// `Memory` where there was none.
 pub fn diff(rt: &HostRuntime, dir: &str) -> Result<(), Failed> {
     let (version, draft) = match read_folder(rt, dir) {
         Ok(both) => both,
@@ -32,7 +34,8 @@ pub fn diff(rt: &HostRuntime, dir: &str) -> Result<(), Failed> {
     printed(rt, print!(rt; "{text}"))
 }
 
-/// The current version of a folder, and its draft. Another process may change both meanwhile: neither is changed here, and no lock is taken.
+/// The current version of a folder, and its draft. Another process may change both meanwhile:
+/// neither is changed here, and no lock is taken.
 ///
 /// # Errors
 ///

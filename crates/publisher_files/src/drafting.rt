@@ -52,7 +52,8 @@ pub fn open_draft<'a, R: FileSystem>(rt: &'a R, dir: &str) -> Result<OpenDraft<'
     })
 }
 
-/// Appends these changes to a draft, as one entry, and answers how many places the draft changes then. No changes are no entry.
+/// Appends these changes to a draft, as one entry, and answers how many places the draft changes
+/// then. No changes are no entry.
 ///
 /// # Errors
 ///
@@ -87,8 +88,9 @@ fn count_with(alloc: Global, some: &ChangeMap, others: ChangeMap) -> Result<usiz
 ///
 /// # Errors
 ///
-/// In this order: `File` if the folder has no snapshot, `Locked` if another process has it, those of the snapshot, of its log (`File`,
-/// `BadLog`) and of the draft (`File`, `BadDraft`), `BadIndex` if the draft has no such record, `BadLength` if no record has so many bytes, and those of the
+/// In this order: `File` if the folder has no snapshot, `Locked` if another process has it, those
+/// of the snapshot, of its log (`File`, `BadLog`) and of the draft (`File`, `BadDraft`), `BadIndex`
+/// if the draft has no such record, `BadLength` if no record has so many bytes, and those of the
 /// draft's new entry (`VersionsUsedUp`, `Write`). `Memory` where there was none.
 pub fn set(rt: &HostRuntime, dir: &str, index: u32, bytes: Vec<u8>) -> Result<Drafted, Failed> {
     match draft_one(rt, dir, Target::At(index), bytes) {

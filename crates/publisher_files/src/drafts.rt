@@ -7,7 +7,8 @@ ghost use Rattle.publication_log.specs.Entries.{chain_bytes};
 ghost use Rattle.publication_log.specs.Logs.{AreNext, bodies_of};
 ghost use Rattle.snapshot_file.specs.Snapshots.{header_of};
 ghost use Rattle.version_store.specs.Openings.{IsSound};
-ghost use Rattle.publisher_drafts.specs.Merging.{changes_in, merged_all, are_entries_of, count_after_entries};
+ghost use Rattle.publisher_drafts.specs.Merging.{changes_in, merged_all, are_entries_of};
+ghost use Rattle.publisher_drafts.specs.Merging.{count_after_entries};
 ghost use Rattle.publisher_files.specs.Drafts.{draft_header};
 
 use crate::version::FolderVersion;
@@ -61,8 +62,8 @@ pub struct Draft {
 ///
 /// # Errors
 ///
-/// `File` if the file can't be read, or is none; `BadDraft` if it is damaged, or is no draft of the version nor of the one before
-/// that was published; `Memory`.
+/// `File` if the file can't be read, or is none; `BadDraft` if it is damaged, or is no draft of the
+/// version nor of the one before that was published; `Memory`.
 pub fn read_draft<R: FileSystem>(
     rt: &R,
     name: &str,
@@ -127,7 +128,8 @@ fn current_draft(
     }
 }
 
-// The draft of no changes, if the file has a draft of the version before, and the current version has all that it changes.
+// The draft of no changes, if the file has a draft of the version before, and the current version
+// has all that it changes.
 fn published_draft<R: FileSystem>(
     rt: &R,
     name: &str,
@@ -165,13 +167,14 @@ fn has_record(version: &FolderVersion, place: usize, bytes: &[u8]) -> bool
     place < version.count() && version.record(place) == bytes
 }
 
-/// Appends an entry of these changes to the draft of the current version, in the file of this name, which is made if there is none. The entry
-/// is on the device then.
+/// Appends an entry of these changes to the draft of the current version, in the file of this name,
+/// which is made if there is none. The entry is on the device then.
 ///
 /// # Errors
 ///
-/// `File` if the file can't be made or opened, `BadDraft` if it is no good draft, `VersionsUsedUp` if no number is left for the entry,
-/// `TooLong` if no entry has room for the changes, `Write` if it can't be written or sent to the device; `Memory`.
+/// `File` if the file can't be made or opened, `BadDraft` if it is no good draft, `VersionsUsedUp`
+/// if no number is left for the entry, `TooLong` if no entry has room for the changes, `Write` if
+/// it can't be written or sent to the device; `Memory`.
 pub fn append_entry<R: FileSystem>(
     rt: &R,
     name: &str,
@@ -213,11 +216,13 @@ pub fn publication_after(
     }
 }
 
-/// Appends a publication to a log, and answers the version that the log has then. If that fails, what it left is cut off.
+/// Appends a publication to a log, and answers the version that the log has then. If that fails,
+/// what it left is cut off.
 ///
 /// # Errors
 ///
-/// `Write` if it can't be written or sent to the device, `TooLong` if the log has no room for it; `Memory`.
+/// `Write` if it can't be written or sent to the device, `TooLong` if the log has no room for it;
+/// `Memory`.
 pub fn append_to<D: Disk>(
     alloc: Global,
     log: &mut Log<D>,

@@ -57,7 +57,8 @@ pub struct LockedFolder<'a, R: FileSystem = HostRuntime> {
 ///
 /// # Errors
 ///
-/// `File` if the folder has no snapshot, or its lock can't be taken; `Locked` if another process has it; `Memory`.
+/// `File` if the folder has no snapshot, or its lock can't be taken; `Locked` if another process
+/// has it; `Memory`.
 pub fn lock_folder<'a, R: FileSystem>(
     rt: &'a R,
     dir: &str,
@@ -72,12 +73,13 @@ pub fn lock_folder<'a, R: FileSystem>(
     })
 }
 
-/// Makes a folder if there is none, and in it the snapshot of version 1 of the records on standard input. Answers how many there
-/// are.
+/// Makes a folder if there is none, and in it the snapshot of version 1 of the records on standard
+/// input. Answers how many there are.
 ///
 /// # Errors
 ///
-/// `File` if the folder can't be made; then those of [`make`] with `new`: `Exists` if the folder has a snapshot.
+/// `File` if the folder can't be made; then those of [`make`] with `new`: `Exists` if the folder
+/// has a snapshot.
 pub fn init(rt: &HostRuntime, dir: &str, making: Making<'_>) -> Result<u32, Failed> {
     let name = records_name(rt.alloc(), dir)?;
     if let Err(failure) = make_folder(rt, dir) {

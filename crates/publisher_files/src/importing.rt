@@ -20,13 +20,16 @@ pub enum ImportFault {
     Failed(Failed),
 }
 
-/// Appends the changes that the lines on standard input ask for to a folder's draft, one after another.
+/// Appends the changes that the lines on standard input ask for to a folder's draft, one after
+/// another.
 ///
 /// # Errors
 ///
-/// In this order: `File` if the folder has no snapshot, `Locked` if another process has it, those of the snapshot, of its log (`File`,
-/// `BadLog`) and of the draft (`File`, `BadDraft`), `Read` if standard input can't be read, the first line that is refused, with its number, `TooLong` if no entry has
-/// room for the changes, and those of the draft's new entry (`VersionsUsedUp`, `Write`). `Memory` where there was none. Nothing of the lines is in the draft then.
+/// In this order: `File` if the folder has no snapshot, `Locked` if another process has it, those
+/// of the snapshot, of its log (`File`, `BadLog`) and of the draft (`File`, `BadDraft`), `Read` if
+/// standard input can't be read, the first line that is refused, with its number, `TooLong` if no
+/// entry has room for the changes, and those of the draft's new entry (`VersionsUsedUp`, `Write`).
+/// `Memory` where there was none. Nothing of the lines is in the draft then.
 pub fn import(rt: &HostRuntime, dir: &str) -> Result<Drafted, ImportFault> {
     let open = match open_draft(rt, dir) {
         Ok(open) => open,

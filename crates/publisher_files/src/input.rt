@@ -8,7 +8,8 @@ use connection_io::{piece_buffer, read_piece};
 use std::alloc::Global;
 use std::io::Read;
 
-/// The most bytes that are read: more than the lines of any publication's changes have that fit in memory.
+/// The most bytes that are read: more than the lines of any publication's changes have that fit in
+/// memory.
 pub const MOST_INPUT: usize = 8_589_934_592;
 
 /// All bytes of a reader.

@@ -20,14 +20,16 @@ use session_core::Snapshot;
 /// The failure of a draft that changes nothing.
 const NOTHING_TO_PUBLISH: Failure = Failure::Fault("NothingToPublish");
 
-/// Makes a folder's draft the next version: appends its changes to the log as one publication, and removes the draft. Answers the
-/// version that snapshot and log have then.
+/// Makes a folder's draft the next version: appends its changes to the log as one publication, and
+/// removes the draft. Answers the version that snapshot and log have then.
 ///
 /// # Errors
 ///
-/// In this order: `File` if the folder has no snapshot, `Locked` if another process has it, those of the snapshot, of its log (`File`,
-/// `BadLog`) and of the draft (`File`, `BadDraft`), `NothingToPublish` if the draft changes nothing, `VersionsUsedUp` if there is no further
-/// version, `TooLong` if no publication has room for the changes, and `Write` if it can't be written or sent to the device. `Memory` where there was none.
+/// In this order: `File` if the folder has no snapshot, `Locked` if another process has it, those
+/// of the snapshot, of its log (`File`, `BadLog`) and of the draft (`File`, `BadDraft`),
+/// `NothingToPublish` if the draft changes nothing, `VersionsUsedUp` if there is no further
+/// version, `TooLong` if no publication has room for the changes, and `Write` if it can't be
+/// written or sent to the device. `Memory` where there was none.
 pub fn publish(rt: &HostRuntime, dir: &str) -> Result<FileVersion, Failed> {
     match publish_draft(rt, dir) {
         Ok(has) => Ok(has),
@@ -82,7 +84,8 @@ fn append_to_own<R: FileSystem>(
     append_to(rt.alloc(), &mut log, publication)
 }
 
-// Why nothing is published. A draft without changes, as a command leaves that was killed before it wrote any, is removed.
+// Why nothing is published. A draft without changes, as a command leaves that was killed before it
+// wrote any, is removed.
 fn nothing_to_publish<R: FileSystem>(
     rt: &R,
     folder: &LockedFolder<'_, R>,

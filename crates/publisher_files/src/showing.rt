@@ -14,8 +14,8 @@ use publisher_drafts::shown_bytes;
 use server_files::LogSize;
 use std::alloc::{AllocError, Global};
 
-/// Prints what a folder has, a line each: the current version, how many records it has, how many the draft changes, the version of the snapshot, how much
-/// the log has, the form, and the sizes.
+/// Prints what a folder has, a line each: the current version, how many records it has, how many
+/// the draft changes, the version of the snapshot, how much the log has, the form, and the sizes.
 ///
 /// # Errors
 ///
@@ -38,8 +38,9 @@ pub fn show(rt: &HostRuntime, dir: &str) -> Result<(), Failed> {
 ///
 /// # Errors
 ///
-/// In this order: `File` if the folder has no snapshot, those of the snapshot and of its log (`File`, `BadLog`), `BadIndex` if there is no such
-/// record, and `Write` if it can't be printed. `Memory` where there was none.
+/// In this order: `File` if the folder has no snapshot, those of the snapshot and of its log
+/// (`File`, `BadLog`), `BadIndex` if there is no such record, and `Write` if it can't be printed.
+/// `Memory` where there was none.
 pub fn show_record(rt: &HostRuntime, dir: &str, index: u32) -> Result<(), Failed> {
     match record_text(rt, dir, index as usize) {
         Ok(text) => printed(rt, println!(rt; "{text}")),
@@ -81,7 +82,8 @@ fn version_lines(
     };
     let records = records.as_str();
     format!(in alloc;
-        "version {number}\n{records}draft {drafted} records\nsnapshot {since}\nlog {publications} publications, {bytes} bytes\n"
+        "version {number}\n{records}draft {drafted} records\nsnapshot {since}\n\
+            log {publications} publications, {bytes} bytes\n"
     )
 }
 
@@ -98,7 +100,8 @@ fn size_lines(alloc: Global, version: &FolderVersion) -> Result<Option<String>, 
     let cols = layout.cols();
     let n = plan.dimension;
     let text = format!(in alloc;
-        "form {form}\nwidth {width}\ngroups {groups}\ndigits {rows} rows {cols} columns\ndimension {n}\n"
+        "form {form}\nwidth {width}\ngroups {groups}\ndigits {rows} rows {cols} columns\n\
+            dimension {n}\n"
     )?;
     Ok(Some(text))
 }

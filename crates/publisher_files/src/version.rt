@@ -124,12 +124,13 @@ fn record_in(snapshot: &Snapshot, i: usize) -> &[u8]
     plan.content(nth_record(&layout, &snapshot.records, i))
 }
 
-/// The current version that a folder has in its snapshot, of this name, and its log. Another process may publish meanwhile: nothing is changed,
-/// and no lock is taken.
+/// The current version that a folder has in its snapshot, of this name, and its log. Another
+/// process may publish meanwhile: nothing is changed, and no lock is taken.
 ///
 /// # Errors
 ///
-/// In this order: `File` if there is no snapshot or its log can't be read, the refusals of the snapshot, `BadLog`; `Memory`.
+/// In this order: `File` if there is no snapshot or its log can't be read, the refusals of the
+/// snapshot, `BadLog`; `Memory`.
 pub fn open_folder<R: FileSystem>(rt: &R, records: &str) -> Result<FolderVersion, Failure>
     ensures sound { IfOk result (λ it.
         IsSound (header_of it.snapshot) it.snapshot.records.items) }
@@ -143,13 +144,13 @@ pub fn open_folder<R: FileSystem>(rt: &R, records: &str) -> Result<FolderVersion
     Err(NO_FILE)
 }
 
-/// The same, with its last publication on the device, so that it may be pushed: one that failed half, or that another process is about to
-/// make, is there by then, or not among them.
+/// The same, with its last publication on the device, so that it may be pushed: one that failed
+/// half, or that another process is about to make, is there by then, or not among them.
 ///
 /// # Errors
 ///
-/// `File` if there is no snapshot, `Locked` if another process changes the folder, those of [`open_folder`], and `Write` if a torn end of
-/// the log can't be cut off.
+/// `File` if there is no snapshot, `Locked` if another process changes the folder, those of
+/// [`open_folder`], and `Write` if a torn end of the log can't be cut off.
 pub fn settled_folder<R: FileSystem>(rt: &R, records: &str) -> Result<FolderVersion, Failure>
     ensures sound { IfOk result (λ it.
         IsSound (header_of it.snapshot) it.snapshot.records.items) }
@@ -160,7 +161,8 @@ pub fn settled_folder<R: FileSystem>(rt: &R, records: &str) -> Result<FolderVers
     Ok(version)
 }
 
-/// Sends the log of a version to the device, by who has the folder's lock: nothing is to be built on a publication that is not there.
+/// Sends the log of a version to the device, by who has the folder's lock: nothing is to be built
+/// on a publication that is not there.
 ///
 /// # Errors
 ///
@@ -175,7 +177,8 @@ pub fn settle_log<R: FileSystem>(rt: &R, version: &FolderVersion) -> Result<(), 
     }
 }
 
-// The version, unless the snapshot was replaced before its log was read: the old log may be gone then.
+// The version, unless the snapshot was replaced before its log was read: the old log may be gone
+// then.
 fn read_pair<R: FileSystem>(rt: &R, place: &Place<'_, R>) -> Result<Option<FolderVersion>, Failure>
     ensures sound { IfOk result (λ it. IfSome it (λ it.
         IsSound (header_of it.snapshot) it.snapshot.records.items)) }

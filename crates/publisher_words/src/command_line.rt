@@ -3,7 +3,8 @@
 ghost use Rattle.std.specs.Prelude.{◌≡◌, IfOk, Some, codes};
 ghost use Rattle.clap.specs.Matches.{first_value, found_of};
 ghost use Rattle.server_words.specs.Tasks.{IsNumberGiven};
-ghost use Rattle.publisher_words.specs.Tasks.{IsRecordGiven, ReadsAdd, ReadsPush, ReadsSet, ReadsShow};
+ghost use Rattle.publisher_words.specs.Tasks.{IsRecordGiven, ReadsAdd, ReadsPush, ReadsSet};
+ghost use Rattle.publisher_words.specs.Tasks.{ReadsShow};
 
 use crate::init_line::{Beginning, INIT, beginning_of};
 use crate::peers::{Peer, peers_at};
@@ -124,7 +125,17 @@ const DIR: Argument = Argument::Required {
 const IMPORT: CommandText = CommandText {
     name: "import",
     about: "Puts the changes that the lines on standard input ask for into the draft",
-    example: "Prints 'drafted N', N being how many records the draft changes then.\n\nA line is 'INDEX HEX' for a record that is replaced, '+ HEX' for one that is appended, or the same with a comma for the space; a first line\n'index,hex' is skipped. HEX is the record's bytes as two hex digits each, or - for none. A later line of an INDEX stands in the stead of an earlier one.\nIf a line is none of these, or its change can't be made, nothing is in the draft, and standard error has 'line NUMBER: bad'.\n\nExample: printf '0 0a\\n+ c8\\n' | pir_publisher import --dir mine\n\nWith --verbose a fault has a second line, 'cause: TEXT', that says what failed and where.",
+    example: "Prints 'drafted N', N being how many records the draft changes then.\n\n\
+        A line is 'INDEX HEX' for a record that is replaced, '+ HEX' for one that is appended, or \
+        the same with a comma for the space; a first line\n\
+        'index,hex' is skipped. HEX is the record's bytes as two hex digits each, or - for none. A \
+        later line of an INDEX stands in the stead of an earlier one.\n\
+        If a line is none of these, or its change can't be made, nothing is in the draft, and \
+        standard error has 'line NUMBER: bad'.\n\n\
+        Example: printf '0 0a\\n\
+        + c8\\n\
+        ' | pir_publisher import --dir mine\n\n\
+        With --verbose a fault has a second line, 'cause: TEXT', that says what failed and where.",
     arguments: &[Argument::Verbose, DIR],
 };
 
@@ -132,7 +143,9 @@ const IMPORT: CommandText = CommandText {
 const SET: CommandText = CommandText {
     name: "set",
     about: "Replaces a record in the draft",
-    example: "Prints 'drafted N', N being how many records the draft changes then.\n\nExample: pir_publisher set --dir mine 0 0a\n\nWith --verbose a fault has a second line, 'cause: TEXT', that says what failed and where.",
+    example: "Prints 'drafted N', N being how many records the draft changes then.\n\n\
+        Example: pir_publisher set --dir mine 0 0a\n\n\
+        With --verbose a fault has a second line, 'cause: TEXT', that says what failed and where.",
     arguments: &[
         Argument::Verbose,
         DIR,
@@ -151,7 +164,9 @@ const SET: CommandText = CommandText {
 const ADD: CommandText = CommandText {
     name: "add",
     about: "Appends a record to the draft",
-    example: "Prints 'drafted N', N being how many records the draft changes then.\n\nExample: pir_publisher add --dir mine 0a\n\nWith --verbose a fault has a second line, 'cause: TEXT', that says what failed and where.",
+    example: "Prints 'drafted N', N being how many records the draft changes then.\n\n\
+        Example: pir_publisher add --dir mine 0a\n\n\
+        With --verbose a fault has a second line, 'cause: TEXT', that says what failed and where.",
     arguments: &[
         Argument::Verbose,
         DIR,
@@ -166,7 +181,17 @@ const ADD: CommandText = CommandText {
 const SHOW: CommandText = CommandText {
     name: "show",
     about: "Shows what a folder has, or a record of its current version",
-    example: "Without INDEX prints a line each: the version; how many records it has, and their length; how many of them the draft changes; the version of the\nsnapshot; how many publications the log has after it, and how many bytes; the form; the bits of a digit; the records in a column; the rows and columns\nof digits; the words of a secret. With INDEX prints that record in hex, or - if it has no bytes; the draft is not looked at.\n\nThe log grows with each version: 'pir_server compact --file DIR/records.pir' makes it shorter.\n\nExample: pir_publisher show --dir mine\nExample: pir_publisher show --dir mine 0\n\nWith --verbose a fault has a second line, 'cause: TEXT', that says what failed and where.",
+    example: "Without INDEX prints a line each: the version; how many records it has, and their \
+        length; how many of them the draft changes; the version of the\n\
+        snapshot; how many publications the log has after it, and how many bytes; the form; the \
+        bits of a digit; the records in a column; the rows and columns\n\
+        of digits; the words of a secret. With INDEX prints that record in hex, or - if it has no \
+        bytes; the draft is not looked at.\n\n\
+        The log grows with each version: 'pir_server compact --file DIR/records.pir' makes it \
+        shorter.\n\n\
+        Example: pir_publisher show --dir mine\n\
+        Example: pir_publisher show --dir mine 0\n\n\
+        With --verbose a fault has a second line, 'cause: TEXT', that says what failed and where.",
     arguments: &[Argument::Verbose, DIR],
 };
 
@@ -174,7 +199,14 @@ const SHOW: CommandText = CommandText {
 const DIFF: CommandText = CommandText {
     name: "diff",
     about: "Shows what the draft changes of the current version",
-    example: "Prints a line for each record that the draft changes, by ascending index: 'INDEX OLDHEX NEWHEX', or '+ HEX' for one that it appends, - being the HEX of\nno bytes. Without the second of three words these are lines of an import, also into another folder at the same version:\n  pir_publisher diff --dir mine | awk '{print $1, $NF}' | pir_publisher import --dir other\n\nExample: pir_publisher diff --dir mine\n\nWith --verbose a fault has a second line, 'cause: TEXT', that says what failed and where.",
+    example: "Prints a line for each record that the draft changes, by ascending index: 'INDEX \
+        OLDHEX NEWHEX', or '+ HEX' for one that it appends, - being the HEX of\n\
+        no bytes. Without the second of three words these are lines of an import, also into \
+        another folder at the same version:\
+        \n  pir_publisher diff --dir mine | awk '{print $1, $NF}' | pir_publisher import --dir \
+        other\n\n\
+        Example: pir_publisher diff --dir mine\n\n\
+        With --verbose a fault has a second line, 'cause: TEXT', that says what failed and where.",
     arguments: &[Argument::Verbose, DIR],
 };
 
@@ -182,7 +214,10 @@ const DIFF: CommandText = CommandText {
 const PUBLISH: CommandText = CommandText {
     name: "publish",
     about: "Makes the draft the next version, in the folder's log",
-    example: "Prints 'published VERSION'. The version is on the disk then, and the draft is empty. No server has it yet: push brings it to them.\n\nExample: pir_publisher publish --dir mine\n\nWith --verbose a fault has a second line, 'cause: TEXT', that says what failed and where.",
+    example: "Prints 'published VERSION'. The version is on the disk then, and the draft is empty. \
+        No server has it yet: push brings it to them.\n\n\
+        Example: pir_publisher publish --dir mine\n\n\
+        With --verbose a fault has a second line, 'cause: TEXT', that says what failed and where.",
     arguments: &[Argument::Verbose, DIR],
 };
 
@@ -190,7 +225,31 @@ const PUBLISH: CommandText = CommandText {
 const PUSH: CommandText = CommandText {
     name: "push",
     about: "Brings servers to the folder's version",
-    example: "Greets each server as the publisher, side by side, and sends it the publications that it lacks. Prints 'pushed HOST:PORT VERSION' for each\nthat has the folder's version then. One that takes no connection or says nothing is tried up to three times. Prints 'left HOST:PORT CAUSE' for one that is left\nas it is, and at the end 'fault: Left' if there is any. CAUSE begins with a name:\n  Connect, Timeout, Ended   it takes no connection, said nothing for ten seconds, or ended the connection\n  Push         it refused (code 4: another key), or replied otherwise than that it is done in the version awaited\n  OtherStore   its seed or sizes are others: start it from a copy of the snapshot\n  Ahead        it has a later version than the folder\n  BeforeLog    its version is before those of the log: start it from a copy of the snapshot\n  Differs      it has another number of records, or with --verify another record than the folder\n  Unverified   with --verify: a record could not be retrieved\n  Memory       memory was refused\n\nStart servers with 'run --draft session': what a push that was cut short left would be published by the next one otherwise.\n\nWith --watch this goes on until the process is killed: each second it looks for a new version in the folder, a server that is away is tried again after 1 to\n60 seconds, and a line is printed when that is news.\n\nExample: pir_publisher push --dir mine --key @key.txt --to 127.0.0.1:7000 --to 127.0.0.1:7001\n\nWith --verbose a fault has a second line, 'cause: TEXT', that says what failed and where.",
+    example: "Greets each server as the publisher, side by side, and sends it the publications \
+        that it lacks. Prints 'pushed HOST:PORT VERSION' for each\n\
+        that has the folder's version then. One that takes no connection or says nothing is tried \
+        up to three times. Prints 'left HOST:PORT CAUSE' for one that is left\n\
+        as it is, and at the end 'fault: Left' if there is any. CAUSE begins with a name:\
+        \n  Connect, Timeout, Ended   it takes no connection, said nothing for ten seconds, or \
+        ended the connection\
+        \n  Push         it refused (code 4: another key), or replied otherwise than that it is \
+        done in the version awaited\
+        \n  OtherStore   its seed or sizes are others: start it from a copy of the snapshot\
+        \n  Ahead        it has a later version than the folder\
+        \n  BeforeLog    its version is before those of the log: start it from a copy of the \
+        snapshot\
+        \n  Differs      it has another number of records, or with --verify another record than \
+        the folder\
+        \n  Unverified   with --verify: a record could not be retrieved\
+        \n  Memory       memory was refused\n\n\
+        Start servers with 'run --draft session': what a push that was cut short left would be \
+        published by the next one otherwise.\n\n\
+        With --watch this goes on until the process is killed: each second it looks for a new \
+        version in the folder, a server that is away is tried again after 1 to\n\
+        60 seconds, and a line is printed when that is news.\n\n\
+        Example: pir_publisher push --dir mine --key @key.txt --to 127.0.0.1:7000 --to \
+        127.0.0.1:7001\n\n\
+        With --verbose a fault has a second line, 'cause: TEXT', that says what failed and where.",
     arguments: &[
         Argument::Verbose,
         DIR,
@@ -205,7 +264,8 @@ const PUSH: CommandText = CommandText {
         },
         Argument::Flag {
             name: "verify",
-            help: "Retrieves of each server the records that were changed by what was pushed to it, or by the last publication, and compares them with the folder's",
+            help: "Retrieves of each server the records that were changed by what was pushed to \
+                it, or by the last publication, and compares them with the folder's",
         },
     ],
 };
@@ -214,7 +274,11 @@ const PUSH: CommandText = CommandText {
 const STATUS: CommandText = CommandText {
     name: "status",
     about: "Asks servers for their versions",
-    example: "Prints a table: a line of titles, and then for each server its address, its version, how many versions it lacks, and how many records it has; of one that\ndid not tell the cause, and at the end 'fault: Connect'.\n\nExample: pir_publisher status --dir mine --to 127.0.0.1:7000 --to 127.0.0.1:7001\n\nWith --verbose a fault has a second line, 'cause: TEXT', that says what failed and where.",
+    example: "Prints a table: a line of titles, and then for each server its address, its version, \
+        how many versions it lacks, and how many records it has; of one that\n\
+        did not tell the cause, and at the end 'fault: Connect'.\n\n\
+        Example: pir_publisher status --dir mine --to 127.0.0.1:7000 --to 127.0.0.1:7001\n\n\
+        With --verbose a fault has a second line, 'cause: TEXT', that says what failed and where.",
     arguments: &[Argument::Verbose, DIR],
 };
 
@@ -222,7 +286,38 @@ const STATUS: CommandText = CommandText {
 const VERSION: &str = "0.2.0";
 
 const EXIT_STATUSES: &str =
-    "A folder has a snapshot, records.pir, with the log of the publications since beside it, both as a server's file has them, and the draft of the\nnext version. To start a server copy records.pir and its log, or 'pir_server backup --file DIR/records.pir --out FILE'.\n\nA value @FILE of --seed or --key is read from that file; one on the command line itself stands in the list of\nprocesses, for other users of this machine to see.\n\nExit status: 0 done, 2 a bad command line, 3 a fault or a bad line, 4 out of memory.\n\nA fault is one line on standard error, 'fault: NAME':\n  File           a file can't be opened or made, or is none, as a folder or a pipe\n  Read, Write    reading or writing failed\n  Exists         the folder has a snapshot, where init is to make one\n  BadRecords     the input of init is not whole records, or not as many as --count says, or lines that are none, or too many bytes\n  BadLayout      no store has these sizes\n  NotSnapshot, Short, BadDigest, TrailingBytes, BadSlot   the folder's snapshot is no whole one\n  BadLog         the log is damaged, or is none of the snapshot\n  BadDraft       the draft is damaged, or is one of another store or another version: remove it to begin a new one\n  Locked         another process has the folder\n  BadIndex       there is no record of this index\n  BadLength      a record of the store can't have this number of bytes\n  Full           the store has room for no further record\n  NothingToPublish   the draft changes nothing\n  VersionsUsedUp     there is no further version number\n  TooLong        no publication has room for so many changes\n  Left           push left a server as it is, and said why\n  Connect        status got no version of a server, or there is nothing to wait for sockets with\n  Memory         memory was refused (status 4)\n\nWith --verbose a second line 'cause: TEXT' says what failed and where.";
+    "A folder has a snapshot, records.pir, with the log of the publications since beside it, both \
+        as a server's file has them, and the draft of the\n\
+        next version. To start a server copy records.pir and its log, or 'pir_server backup --file \
+        DIR/records.pir --out FILE'.\n\n\
+        A value @FILE of --seed or --key is read from that file; one on the command line itself \
+        stands in the list of\n\
+        processes, for other users of this machine to see.\n\n\
+        Exit status: 0 done, 2 a bad command line, 3 a fault or a bad line, 4 out of memory.\n\n\
+        A fault is one line on standard error, 'fault: NAME':\
+        \n  File           a file can't be opened or made, or is none, as a folder or a pipe\
+        \n  Read, Write    reading or writing failed\
+        \n  Exists         the folder has a snapshot, where init is to make one\
+        \n  BadRecords     the input of init is not whole records, or not as many as --count says, \
+        or lines that are none, or too many bytes\
+        \n  BadLayout      no store has these sizes\
+        \n  NotSnapshot, Short, BadDigest, TrailingBytes, BadSlot   the folder's snapshot is no \
+        whole one\
+        \n  BadLog         the log is damaged, or is none of the snapshot\
+        \n  BadDraft       the draft is damaged, or is one of another store or another version: \
+        remove it to begin a new one\
+        \n  Locked         another process has the folder\
+        \n  BadIndex       there is no record of this index\
+        \n  BadLength      a record of the store can't have this number of bytes\
+        \n  Full           the store has room for no further record\
+        \n  NothingToPublish   the draft changes nothing\
+        \n  VersionsUsedUp     there is no further version number\
+        \n  TooLong        no publication has room for so many changes\
+        \n  Left           push left a server as it is, and said why\
+        \n  Connect        status got no version of a server, or there is nothing to wait for \
+        sockets with\
+        \n  Memory         memory was refused (status 4)\n\n\
+        With --verbose a second line 'cause: TEXT' says what failed and where.";
 
 // The whole command line.
 fn whole_command<'a>(alloc: Global) -> Result<Command<'a>, AllocError> {

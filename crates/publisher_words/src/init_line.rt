@@ -32,8 +32,19 @@ pub struct Beginning<'a> {
 /// The command `init`.
 pub const INIT: CommandText = CommandText {
     name: "init",
-    about: "Begins a publisher's folder with a snapshot, at version 1, of the records on standard input",
-    example: "Prints 'made COUNT 1', COUNT being how many records there are. The folder is made if it is missing, for its owner alone. Its snapshot is DIR/records.pir,\nof the same format as a server's file, and of which a copy begins each server.\n\nWithout --count all records are read before any is written, up to 1.2 GB of a wide store. The file is the same.\n\nA seed is for one store alone: whoever keeps a hint of another store with this seed and these sizes would read wrong records.\n\nExample, two records of one byte:\n  printf '\\012\\310' | pir_publisher init --dir mine --width 8 --record 1 --groups 1 \\\n    --seed $(openssl rand -hex 32) --key @key.txt\n\nWith --verbose a fault has a second line, 'cause: TEXT', that says what failed and where.",
+    about: "Begins a publisher's folder with a snapshot, at version 1, of the records on standard \
+        input",
+    example: "Prints 'made COUNT 1', COUNT being how many records there are. The folder is made if \
+        it is missing, for its owner alone. Its snapshot is DIR/records.pir,\n\
+        of the same format as a server's file, and of which a copy begins each server.\n\n\
+        Without --count all records are read before any is written, up to 1.2 GB of a wide store. \
+        The file is the same.\n\n\
+        A seed is for one store alone: whoever keeps a hint of another store with this seed and \
+        these sizes would read wrong records.\n\n\
+        Example, two records of one byte:\
+        \n  printf '\\012\\310' | pir_publisher init --dir mine --width 8 --record 1 --groups 1 \\\
+        \n    --seed $(openssl rand -hex 32) --key @key.txt\n\n\
+        With --verbose a fault has a second line, 'cause: TEXT', that says what failed and where.",
     arguments: &[
         Argument::Verbose,
         Argument::Required {
@@ -44,7 +55,8 @@ pub const INIT: CommandText = CommandText {
         Argument::Optional {
             name: "form",
             value: "F",
-            help: "1 (also if not given): records of R bytes, one after the other; 2: of up to R - 2 bytes, a line of hex each, or -",
+            help: "1 (also if not given): records of R bytes, one after the other; 2: of up to R - \
+                2 bytes, a line of hex each, or -",
         },
         Argument::Flag {
             name: "wide",
@@ -53,36 +65,43 @@ pub const INIT: CommandText = CommandText {
         Argument::Required {
             name: "width",
             value: "W",
-            help: "How many bits a digit has, 6 to 10, or to 9 in a wide store: more make it faster and leave less room for noise",
+            help: "How many bits a digit has, 6 to 10, or to 9 in a wide store: more make it \
+                faster and leave less room for noise",
         },
         Argument::Required {
             name: "record",
             value: "R",
-            help: "How many bytes a record has, 1 to 256; in form 2 those of its slot, 2 to 256, of which two hold its length",
+            help: "How many bytes a record has, 1 to 256; in form 2 those of its slot, 2 to 256, \
+                of which two hold its length",
         },
         Argument::Required {
             name: "groups",
             value: "G",
-            help: "How many records stand in one column, so that the digit matrix has G * ceil(8 R / W) rows (at most 4096, or 32768)",
+            help: "How many records stand in one column, so that the digit matrix has G * ceil(8 R \
+                / W) rows (at most 4096, or 32768)",
         },
         Argument::Optional {
             name: "count",
             value: "N",
-            help: "How many records there are, 1 to 4294967295: they are written as they are read, in little memory (all are read first if not given)",
+            help: "How many records there are, 1 to 4294967295: they are written as they are read, \
+                in little memory (all are read first if not given)",
         },
         Argument::Flag {
             name: "progress",
-            help: "Says each second on standard error how many bytes have been read, and with --count how many seconds are left",
+            help: "Says each second on standard error how many bytes have been read, and with \
+                --count how many seconds are left",
         },
         Argument::Required {
             name: "seed",
             value: "HEX",
-            help: "The public seed of the matrix that all clients use: 32 bytes as 64 hex digits, or @FILE",
+            help: "The public seed of the matrix that all clients use: 32 bytes as 64 hex digits, \
+                or @FILE",
         },
         Argument::Required {
             name: "key",
             value: "HEX",
-            help: "The publisher's key: 32 bytes as 64 hex digits, not all 0, or @FILE; the snapshot keeps its SHA-256 alone",
+            help: "The publisher's key: 32 bytes as 64 hex digits, not all 0, or @FILE; the \
+                snapshot keeps its SHA-256 alone",
         },
     ],
 };

@@ -26,12 +26,14 @@ LogsLeadBack = (versions : List (List (List ℕ))) (lists : List (List OldRecord
 abbrev pub KeptListsAreTheNewest : Type 0
 KeptListsAreTheNewest = (len most : ℕ) (lists : List (List OldRecord)) → AreNewestOf lists (kept_within len most lists)
 
--- old records stay those of a publication, if the same records are put after those before it and those after it
+-- old records stay those of a publication, if the same records are put after those before it and
+-- those after it
 abbrev pub OldBytesStayWithBlanks : Type 0
 OldBytesStayWithBlanks = (before after more : List (List ℕ)) (olds : List OldRecord) →
     AreOldOf before after olds → AreOldOf (before ++ more) (after ++ more) olds
 
--- the entries of what differs between two lists of records move the hint of the one to that of the other
+-- the entries of what differs between two lists of records move the hint of the one to that of the
+-- other
 abbrev pub EntriesMoveTheHint : Type 0
 EntriesMoveTheHint = (l : Shape) (before after : List (List ℕ)) (a1 : WordMatrix) →
     IsShape l → digit_cols l ≤ a1.rows → l.count < 2 ^ 32 → length before ≡ length after → length after ≤ l.count →

@@ -14,7 +14,8 @@ undone_all (oldest ∷ newer) records = undone oldest (undone_all newer records)
 abbrev pub is_listed : List (List OldRecord) → ℕ → Bool
 is_listed lists i = list_any (λ olds. has_old olds i) lists
 
--- the bytes that record i had before the first of the publications that changed it; none if no one did
+-- the bytes that record i had before the first of the publications that changed it; none if no one
+-- did
 abbrev pub oldest_bytes : List (List OldRecord) → ℕ → List ℕ
 oldest_bytes [] i = []
 oldest_bytes (oldest ∷ newer) i = if has_old oldest i then old_bytes_in oldest i else oldest_bytes newer i
@@ -28,13 +29,14 @@ total_bytes len (oldest ∷ newer) = length oldest * len + total_bytes len newer
 abbrev pub are_within : ℕ → ℕ → List (List OldRecord) → Bool
 are_within len most lists = nat_le (length lists) 16 && nat_le (total_bytes len lists) most
 
--- the newest 16 publications at most, whose old records have so many bytes at most: the oldest go first
+-- the newest 16 publications at most, whose old records have so many bytes at most: the oldest go
+-- first
 abbrev pub kept_within : ℕ → ℕ → List (List OldRecord) → List (List OldRecord)
 kept_within len most [] = []
 kept_within len most (oldest ∷ newer) = if are_within len most (oldest ∷ newer) then oldest ∷ newer else kept_within len most newer
 
--- what a log has: the length of records, how many bytes the old ones may have together, and those of the newest publications, the
--- oldest first
+-- what a log has: the length of records, how many bytes the old ones may have together, and those
+-- of the newest publications, the oldest first
 pub record KeptLog : Type 0 where
   pub record_len : ℕ
   pub most : ℕ
@@ -44,7 +46,8 @@ pub record KeptLog : Type 0 where
 abbrev pub newest : ℕ → List (List OldRecord) → List (List OldRecord)
 newest n lists = drop (length lists - n) lists
 
--- what is kept of some publications: the newest, 16 at most; so the newest n of these are the newest n of all
+-- what is kept of some publications: the newest, 16 at most; so the newest n of these are the
+-- newest n of all
 pub record AreNewestOf (lists kept : List (List OldRecord)) : Type 0 where
   pub few : length kept ≤ 16
   pub inside : length kept ≤ length lists
@@ -55,7 +58,8 @@ pub record AreNewestOf (lists kept : List (List OldRecord)) : Type 0 where
 abbrev pub nth_version : List (List (List ℕ)) → ℕ → List (List ℕ)
 nth_version versions n = slice_index_or versions n []
 
--- each of the lists, the oldest first, has all that one publication changed from a version to the next; of the versions the newest is first
+-- each of the lists, the oldest first, has all that one publication changed from a version to the
+-- next; of the versions the newest is first
 abbrev pub AreOldOfAll : List (List (List ℕ)) → List (List OldRecord) → Type 0
 AreOldOfAll versions [] = ⊤
 AreOldOfAll versions (oldest ∷ newer) =

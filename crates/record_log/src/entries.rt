@@ -13,8 +13,8 @@ use std::alloc::AllocError;
 // The most bytes that a record has.
 const MOST_BYTES: usize = 256;
 
-// Adds the entry of a record to others, if its bytes changed, and says whether all entries together have so many bytes at most. If
-// they would have more, nothing is written.
+// Adds the entry of a record to others, if its bytes changed, and says whether all entries together
+// have so many bytes at most. If they would have more, nothing is written.
 pub(crate) fn push_change<S: RecordSource>(
     out: &mut Vec<u8>,
     number: u32,

@@ -1,10 +1,11 @@
 //! What the newest publications changed, by the bytes that records had before.
 //!
-//! A store that keeps the old bytes of what each publication changed can say, for each of these versions, which records differ
-//! from the current one, with their old and their new bytes: `hint_changes` moves a hint by them. A log keeps the newest 16
-//! publications at most, and so many bytes at most; the oldest go first.
+//! A store that keeps the old bytes of what each publication changed can say, for each of these
+//! versions, which records differ from the current one, with their old and their new bytes:
+//! `hint_changes` moves a hint by them. A log keeps the newest 16 publications at most, and so many
+//! bytes at most; the oldest go first.
 //!
-//! Its tests are in `tests/long/store_tests`.
+//! Its tests are in `tests/long/tests_store`.
 #![tactic(auto)]
 
 mod entries;

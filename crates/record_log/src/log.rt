@@ -1,7 +1,9 @@
 //! What the newest publications changed.
 
-ghost use Rattle.std.specs.Prelude.{◌≡◌, ◌≤◌, ◌<◌, ◌*◌, ◌^◌, ◌++◌, ◌∷◌, ◌↔◌, [], length, IfOk, IfSome, IsNone};
-ghost use Rattle.record_log.specs.Logs.{AreInside, entries_since, kept_within, newest, records_of_bytes};
+ghost use Rattle.std.specs.Prelude.{◌≡◌, ◌≤◌, ◌<◌, ◌*◌, ◌^◌, ◌++◌, ◌∷◌, ◌↔◌, [], length, IfOk};
+ghost use Rattle.std.specs.Prelude.{IfSome, IsNone};
+ghost use Rattle.record_log.specs.Logs.{AreInside, entries_since, kept_within, newest};
+ghost use Rattle.record_log.specs.Logs.{records_of_bytes};
 
 use crate::keeping::{MOST_LISTS, drop_oldest};
 use crate::old_records::OldRecords;
@@ -10,8 +12,8 @@ use snapshot_file::RecordSource;
 use std::alloc::{AllocError, Global};
 use std::marker::Model;
 
-/// The records that each of the newest publications changed, with the bytes that they had before: at most 16 publications, and so many
-/// bytes.
+/// The records that each of the newest publications changed, with the bytes that they had before:
+/// at most 16 publications, and so many bytes.
 #[derive(Drop)]
 pub struct RecordLog {
     record_len: usize,
@@ -39,8 +41,8 @@ impl Model for RecordLog {
 }
 
 impl RecordLog {
-    /// A log of records of `record_len` bytes, which keeps `most` of their old bytes at most: no publication yet. Only refused memory
-    /// gives an `Err`.
+    /// A log of records of `record_len` bytes, which keeps `most` of their old bytes at most: no
+    /// publication yet. Only refused memory gives an `Err`.
     pub fn new(alloc: Global, record_len: usize, most: usize) -> Result<RecordLog, AllocError>
         requires { record_len ≤ 256 }
         ensures { IfOk result (λ log. log ≡
@@ -62,7 +64,8 @@ impl RecordLog {
         self.lists.len()
     }
 
-    /// Adds what the next publication changed; the oldest go, if they are too many or have too many bytes together. It takes no memory.
+    /// Adds what the next publication changed; the oldest go, if they are too many or have too many
+    /// bytes together. It takes no memory.
     pub fn push(&mut self, newest: OldRecords)
         requires { newest.record_len ≡ self.old.record_len }
         ensures { self.new ≡ record self.old {
@@ -74,9 +77,10 @@ impl RecordLog {
         drop_oldest(&mut self.lists, self.most);
     }
 
-    /// What changed since the version before the newest n publications, as entries: of each record that differs from the current one,
-    /// ascending. `current` has the `count` records of the current version. None exactly if the entries have more than `most` bytes.
-    /// Only refused memory gives an `Err`.
+    /// What changed since the version before the newest n publications, as entries: of each record
+    /// that differs from the current one, ascending. `current` has the `count` records of the
+    /// current version. None exactly if the entries have more than `most` bytes. Only refused
+    /// memory gives an `Err`.
     pub fn changes_since<S: RecordSource>(
         &self,
         alloc: Global,

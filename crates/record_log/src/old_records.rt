@@ -1,13 +1,15 @@
 //! What one publication changed.
 
-ghost use Rattle.std.specs.Prelude.{◌≡◌, ◌≤◌, ◌<◌, ◌*◌, ◌++◌, ◌∷◌, ◌↔◌, ℕ, All, [], false, length, slice_index, OnOk, OnErr, IfSome, IsNone};
+ghost use Rattle.std.specs.Prelude.{◌≡◌, ◌≤◌, ◌<◌, ◌*◌, ◌++◌, ◌∷◌, ◌↔◌, ℕ, All, [], false, length};
+ghost use Rattle.std.specs.Prelude.{slice_index, OnOk, OnErr, IfSome, IsNone};
 ghost use Rattle.std.specs.List.Sorted.{IsStrictlyIncreasing};
 ghost use Rattle.record_log.specs.OldRecords.{AreAscending, first_from, has_old, old_bytes_in};
 
 use std::alloc::{AllocError, Global};
 use std::marker::Model;
 
-/// The records of one length that a publication changed: their numbers, ascending, and the bytes that each had before.
+/// The records of one length that a publication changed: their numbers, ascending, and the bytes
+/// that each had before.
 #[derive(Drop)]
 pub struct OldRecords {
     record_len: usize,
@@ -44,7 +46,8 @@ impl OldRecords {
         }
     }
 
-    /// Adds a record with a greater number than those before. Only refused memory gives an `Err`, and then nothing has changed.
+    /// Adds a record with a greater number than those before. Only refused memory gives an `Err`,
+    /// and then nothing has changed.
     pub fn push(&mut self, number: u32, bytes: &[u8]) -> Result<(), AllocError>
         requires len { length bytes.now ≡ self.old.record_len }
         requires later { All (λ old. old.index < number) self.old.records }

@@ -1,7 +1,9 @@
 //! What changed since some publications.
 
-ghost use Rattle.std.specs.Prelude.{◌≡◌, ◌≤◌, ◌<◌, ◌+◌, ◌*◌, ◌^◌, ◌↔◌, ℕ, false, length, IfOk, IfSome, IsNone};
-ghost use Rattle.record_log.specs.Logs.{AreInside, entries_since, is_listed, oldest_bytes, records_of_bytes};
+ghost use Rattle.std.specs.Prelude.{◌≡◌, ◌≤◌, ◌<◌, ◌+◌, ◌*◌, ◌^◌, ◌↔◌, ℕ, false, length, IfOk};
+ghost use Rattle.std.specs.Prelude.{IfSome, IsNone};
+ghost use Rattle.record_log.specs.Logs.{AreInside, entries_since, is_listed, oldest_bytes};
+ghost use Rattle.record_log.specs.Logs.{records_of_bytes};
 ghost use Rattle.record_log.specs.Steps.{AddsWithin, HaveLen, IsNext, lesser, next_entry, olds_of};
 
 use crate::entries::push_change;
@@ -9,8 +11,8 @@ use crate::old_records::OldRecords;
 use snapshot_file::RecordSource;
 use std::alloc::{AllocError, Global};
 
-// The entries of all records that differ from those before the publications, the oldest of which is the first; none if they have more than
-// `most` bytes.
+// The entries of all records that differ from those before the publications, the oldest of which is
+// the first; none if they have more than `most` bytes.
 pub(crate) fn changes_in<S: RecordSource>(
     alloc: Global,
     lists: &[OldRecords],
@@ -41,8 +43,8 @@ pub(crate) fn changes_in<S: RecordSource>(
     Ok(Some(entries))
 }
 
-// Adds the entry of a record to others, if it differs from what it was before the publications, and says whether all entries together
-// have so many bytes at most.
+// Adds the entry of a record to others, if it differs from what it was before the publications, and
+// says whether all entries together have so many bytes at most.
 fn push_listed<S: RecordSource>(
     out: &mut Vec<u8>,
     lists: &[OldRecords],

@@ -1,5 +1,5 @@
-//! Laws of one layer of encryption, over the definitions alone. A caller that calls one of these functions
-//! has its law at hand in its proof; the call costs nothing.
+//! Laws of one layer of encryption, over the definitions alone. A caller that calls one of these
+//! functions has its law at hand in its proof; the call costs nothing.
 
 ghost use Rattle.regev_core.specs.Laws.{
   QuietRowGivesItsDigit,
@@ -8,8 +8,8 @@ ghost use Rattle.regev_core.specs.Laws.{
   CiphersDifferAtTheirPlaces,
 };
 
-/// A row of digits times a ciphertext, stripped and rounded, is the row's digit at the encrypted place,
-/// wherever the row's noise sum stays below half of delta.
+/// A row of digits times a ciphertext, stripped and rounded, is the row's digit at the encrypted
+/// place, wherever the row's noise sum stays below half of delta.
 pub fn quiet_row_gives_its_digit()
     ensures { QuietRowGivesItsDigit }
 {}
@@ -24,8 +24,8 @@ pub fn nearest_is_the_only()
     ensures { NearestIsTheOnly }
 {}
 
-/// Two encryptions under one secret and noise differ at their two places alone, in words that differ by
-/// delta.
+/// Two encryptions under one secret and noise differ at their two places alone, in words that
+/// differ by delta.
 pub fn ciphers_differ_at_their_places()
     ensures { CiphersDifferAtTheirPlaces }
 {}

@@ -1,8 +1,8 @@
-//! One layer of Regev encryption over words: encrypt a unit vector, strip a product of the hint, round to
-//! a digit ('One Server for the Price of Two', USENIX Security 2023, section 3).
+//! One layer of Regev encryption over words: encrypt a unit vector, strip a product of the hint,
+//! round to a digit ('One Server for the Price of Two', USENIX Security 2023, section 3).
 //!
-//! A digit has w bits, w in 6..=10; the plaintext modulus is 2^w and delta, the distance of neighbouring
-//! digits among the 2^32 words, is 2^(32 - w). All arithmetic is modulo 2^32.
+//! A digit has w bits, w in 6..=10; the plaintext modulus is 2^w and delta, the distance of
+//! neighbouring digits among the 2^32 words, is 2^(32 - w). All arithmetic is modulo 2^32.
 //!
 //! Its tests are in `tests`.
 #![tactic(auto)]
@@ -24,8 +24,8 @@ pub fn delta(w: u32) -> u32
     1 << (32 - w)
 }
 
-/// Encrypts the unit vector with its 1 at `place` into `out`, whatever it held: word j is row j of `a` times
-/// the secret `s`, and the noise `e[j]`, and at `place` delta more.
+/// Encrypts the unit vector with its 1 at `place` into `out`, whatever it held: word j is row j of
+/// `a` times the secret `s`, and the noise `e[j]`, and at `place` delta more.
 ///
 /// `a` has a row for each word of `out` and a column for each word of the secret.
 pub fn encrypt<K: Kernel>(
@@ -48,7 +48,8 @@ pub fn encrypt<K: Kernel>(
     add_noise(e, place, w, out);
 }
 
-/// Adds the noise `e`, word by word, and delta at `place`: what makes the products of a matrix and a secret an encryption.
+/// Adds the noise `e`, word by word, and delta at `place`: what makes the products of a matrix and
+/// a secret an encryption.
 pub fn add_noise(e: &[i32], place: usize, w: u32, out: &mut [u32])
     requires width { (6 ≤ w) × (w ≤ 10) }
     requires place { place < length out.old }
@@ -69,8 +70,8 @@ pub fn strip<K: Kernel>(kernel: K, word: u32, hint_row: &[u32], s: &[u32]) -> u3
     word.wrapping_sub(kernel.dot(hint_row, s))
 }
 
-/// The digit that is nearest to a word on the circle of all words: exactly half of delta above a digit
-/// goes to the next one, exactly half below stays.
+/// The digit that is nearest to a word on the circle of all words: exactly half of delta above a
+/// digit goes to the next one, exactly half below stays.
 #[tactic(auto, unfolding(crate::specs::Encryption::nearest))]
 pub fn round(word: u32, w: u32) -> u32
     requires { (6 ≤ w) × (w ≤ 10) }

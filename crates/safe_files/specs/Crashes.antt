@@ -2,15 +2,16 @@
 use Rattle.std.specs.Prelude.{◌≡◌, ◌⊎◌, ℕ, List, [], ◌∷◌, Option, Some, None, ⊤}
 use Rattle.safe_files.specs.Steps.{Step, Makes, MakeFails, Syncs, SyncFails, Renames, RenameFails, SyncsFolder, SyncFolderFails, Removes}
 
--- what a name on the device leads to: the old file; one of both, since the renaming has not reached the device, or failed and
--- may have been done; the new file
+-- what a name on the device leads to: the old file; one of both, since the renaming has not reached
+-- the device, or failed and may have been done; the new file
 pub data Lead : Type 0 where
   Old : Lead
   Either : Lead
   Unclear : Lead
   New : Lead
 
--- the name, the bytes that the new file had when it was last synced, and those that it had when it was renamed
+-- the name, the bytes that the new file had when it was last synced, and those that it had when it
+-- was renamed
 pub record Device : Type 0 where
   pub lead : Lead
   pub synced : Option (List ℕ)
@@ -27,7 +28,8 @@ settled Either = New
 settled Unclear = Unclear
 settled New = New
 
--- A file of these bytes was synced and given the name, and whoever did that was killed before the folder was synced.
+-- A file of these bytes was synced and given the name, and whoever did that was killed before the
+-- folder was synced.
 abbrev pub just_renamed : List ℕ → Device
 just_renamed bytes = record { lead = Either; synced = Some bytes; renamed = Some bytes }
 
@@ -53,7 +55,8 @@ abbrev pub MayHold : Option (List ℕ) → List ℕ → Type 0
 MayHold None found = ⊤
 MayHold (Some bytes) found = found ≡ bytes
 
--- A crash may leave this of the new file. Where it was renamed with other bytes than were synced, that is anything.
+-- A crash may leave this of the new file. Where it was renamed with other bytes than were synced,
+-- that is anything.
 abbrev pub MayLeaveNew : Device → List ℕ → Type 0
 MayLeaveNew device found = device.synced ≡ device.renamed → MayHold device.synced found
 

@@ -44,7 +44,8 @@ abbrev pub sync_folder_step : {T E : Type 0} → Result T E → Step
 sync_folder_step (Ok _) = SyncsFolder
 sync_folder_step (Err _) = SyncFolderFails
 
--- All steps of a replacement that ended so, in their order. A file that was made and not renamed is removed.
+-- All steps of a replacement that ended so, in their order. A file that was made and not renamed is
+-- removed.
 abbrev pub course : {T : Type 0} → Option (List ℕ) → Result T ReplaceFault → List Step
 course shown (Ok _) = Makes ∷ Syncs shown ∷ Renames shown ∷ SyncsFolder ∷ []
 course shown (Err Make) = MakeFails ∷ []
@@ -63,7 +64,8 @@ IsFinishFault Sync = ⊤
 IsFinishFault Rename = ⊤
 IsFinishFault SyncFolder = ⊤
 
--- All steps of a replacement but the first, the making of the new file, in their order: those that are left once it was written.
+-- All steps of a replacement but the first, the making of the new file, in their order: those that
+-- are left once it was written.
 abbrev pub finishing : {T : Type 0} → Option (List ℕ) → Result T ReplaceFault → List Step
 finishing shown result = drop 1 (course shown result)
 
@@ -73,7 +75,7 @@ settling shown (Ok _) = Syncs shown ∷ SyncsFolder ∷ []
 settling shown (Err settle.Sync) = SyncFails ∷ []
 settling shown (Err settle.SyncFolder) = Syncs shown ∷ SyncFolderFails ∷ []
 
--- The disk took these steps and no others, and what the new file showed when it was synced and renamed is what a new file
--- shows and then the bytes.
+-- The disk took these steps and no others, and what the new file showed when it was synced and
+-- renamed is what a new file shows and then the bytes.
 abbrev pub Replaces : {D T : Type 0} → (D → Step → D → Type 0) → Option (List ℕ) → List ℕ → D → Result T ReplaceFault → D → Type 0
 Replaces does fresh bytes old result new = (shown : Option (List ℕ)) × Appends fresh shown bytes × FoldsTo does old (course shown result) new

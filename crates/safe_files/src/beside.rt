@@ -31,7 +31,8 @@ pub fn are_hex_digits(digits: &str, count: usize) -> bool {
             .all(|byte| matches!(byte, b'0'..=b'9' | b'a'..=b'f'))
 }
 
-// Whether a name is another one with a mark and 16 hex digits after it, or what a replacement of such a file left.
+// Whether a name is another one with a mark and 16 hex digits after it, or what a replacement of
+// such a file left.
 fn is_marked(name: &str, mark: &str, other: &str) -> bool {
     let Some(rest) = other.strip_prefix(name) else {
         return false;
@@ -63,8 +64,9 @@ fn is_own_file<R: FileSystem>(rt: &R, name: &str) -> bool {
     }
 }
 
-/// Removes the files beside one whose names are its own with a mark and 16 hex digits after it, but the one that is kept, and what
-/// killed processes left that were replacing such a file. Links and folders of such names stay. Whoever calls this has the lock of the file.
+/// Removes the files beside one whose names are its own with a mark and 16 hex digits after it, but
+/// the one that is kept, and what killed processes left that were replacing such a file. Links and
+/// folders of such names stay. Whoever calls this has the lock of the file.
 ///
 /// One that can't be removed takes room, and does no other harm: it is not reported.
 pub fn remove_beside<R: FileSystem>(rt: &R, name: &str, mark: &str, kept: &str) {

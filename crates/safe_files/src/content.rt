@@ -28,7 +28,8 @@ impl From<AllocError> for ContentFault {
     }
 }
 
-/// What a file is to hold. It is written from its start to its end, and need not stand in memory as a whole.
+/// What a file is to hold. It is written from its start to its end, and need not stand in memory as
+/// a whole.
 pub trait Content {
     /// Its bytes.
     ghost bytes: { Self → List ℕ };
@@ -37,7 +38,8 @@ pub trait Content {
     ///
     /// # Errors
     ///
-    /// `Write` where a write failed, `Memory` where memory was refused. How many bytes went out is not said.
+    /// `Write` where a write failed, `Memory` where memory was refused. How many bytes went out is
+    /// not said.
     fn write_to<W: Write>(&self, alloc: Global, writer: &mut W) -> Result<(), ContentFault>
         ensures whole { OnOk result
             (Appends (W.contents writer.old) (W.contents writer.new) (bytes self.now)) };

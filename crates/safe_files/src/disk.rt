@@ -2,7 +2,8 @@
 
 ghost use Rattle.std.specs.Prelude.{◌≡◌, ℕ, List, Option, None, IfOk, ⊤};
 ghost use Rattle.std.specs.Io.KnownBytes.{IsAtEnd};
-ghost use Rattle.safe_files.specs.Steps.{Step, Removes, make_step, sync_step, rename_step, sync_folder_step};
+ghost use Rattle.safe_files.specs.Steps.{Step, Removes, make_step, sync_step, rename_step};
+ghost use Rattle.safe_files.specs.Steps.{sync_folder_step};
 
 use std::io::Write;
 use thiserror::Error;
@@ -14,8 +15,8 @@ pub struct DiskFailed;
 
 /// The folder of one file, in which a new file is made beside it and then given its name.
 ///
-/// What each call did is known from the call alone, so a contract can say which steps were taken, in which order,
-/// and that an error came of a step that failed.
+/// What each call did is known from the call alone, so a contract can say which steps were taken,
+/// in which order, and that an error came of a step that failed.
 pub trait Disk {
     /// The new file, open to be written.
     type File: Write + Drop;
@@ -26,7 +27,8 @@ pub trait Disk {
     /// Relates the disk before a step, the step, and the disk after it.
     ghost does: { Self → Step → Self → Type 0 } = { λ _ _ _. ⊤ };
 
-    /// Makes a new file beside the old one, with no bytes, under a name that nothing had: no file, no link, no pipe.
+    /// Makes a new file beside the old one, with no bytes, under a name that nothing had: no file,
+    /// no link, no pipe.
     fn make(&mut self) -> Result<Self::File, DiskFailed>
         ensures fresh { IfOk result (λ file. Self.File.contents file ≡ fresh) }
         ensures did { does self.old (make_step result) self.new };

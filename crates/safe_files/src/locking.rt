@@ -37,8 +37,8 @@ impl From<AllocError> for LockFault {
     }
 }
 
-/// A lock that this process has. It is given back when the value is dropped, and by the system when the process ends,
-/// in whatever way.
+/// A lock that this process has. It is given back when the value is dropped, and by the system when
+/// the process ends, in whatever way.
 #[derive(Drop)]
 pub struct FileLock<R: FileSystem = HostRuntime> {
     file: R::File,
@@ -51,12 +51,13 @@ impl<R: FileSystem> FileLock<R> {
     }
 }
 
-/// Takes the lock on a file of this name, which is made where there is none, and is never to be renamed or removed. It
-/// is not waited for.
+/// Takes the lock on a file of this name, which is made where there is none, and is never to be
+/// renamed or removed. It is not waited for.
 ///
 /// # Errors
 ///
-/// `Held` where another process has it; `File` where the file can't be opened or made, or is a link or no file.
+/// `Held` where another process has it; `File` where the file can't be opened or made, or is a link
+/// or no file.
 pub fn lock<R: FileSystem>(rt: &R, name: &str) -> Result<FileLock<R>, LockFault> {
     let Ok(file) = lock_file(rt, name) else {
         return Err(LockFault::File);
@@ -87,7 +88,8 @@ fn lock_file<R: FileSystem>(rt: &R, name: &str) -> io::Result<R::File> {
     }
 }
 
-// Whether the name is that of the open file itself, and neither a link nor something that is no file.
+// Whether the name is that of the open file itself, and neither a link nor something that is no
+// file.
 fn is_own_file<R: FileSystem>(rt: &R, name: &str, file: &R::File) -> bool {
     match (fs::symlink_metadata(rt, name), file.metadata()) {
         (Ok(named), Ok(opened)) => named.is_file() && is_one_file(&named, &opened),

@@ -24,9 +24,10 @@ const MODE_BITS: u32 = 0o7777;
 
 /// A file of the system that is to be replaced, or made.
 ///
-/// The new file has `.new` after its name, or, where something stands there, random digits too: what stands beside is
-/// never opened, followed nor removed. It gets the old one's mode, and its owner where the system permits that; 0600
-/// where there was none. A file that a killed process left beside stays there, unless [`Place::lock`] removes it.
+/// The new file has `.new` after its name, or, where something stands there, random digits too:
+/// what stands beside is never opened, followed nor removed. It gets the old one's mode, and its
+/// owner where the system permits that; 0600 where there was none. A file that a killed process
+/// left beside stays there, unless [`Place::lock`] removes it.
 #[derive(Drop)]
 pub struct Place<'a, R: FileSystem = HostRuntime> {
     rt: &'a R,
@@ -34,11 +35,13 @@ pub struct Place<'a, R: FileSystem = HostRuntime> {
     name: String,
     // The name of the file beside that was made last, or that is tried first.
     beside: String,
-    // Names to try where something stands there. The memory for them is had before anything is done.
+    // Names to try where something stands there. The memory for them is had before anything is
+    // done.
     others: Vec<String>,
     // The folder, open since the file was made, so that it can surely be sent to the device later.
     folder: Option<R::File>,
-    // A descriptor that is kept for the new file, so that there is one for it whatever else is open.
+    // A descriptor that is kept for the new file, so that there is one for it whatever else is
+    // open.
     spare: Option<R::File>,
 }
 
@@ -62,7 +65,8 @@ impl<'a, R: FileSystem> Place<'a, R> {
         })
     }
 
-    /// Whether something stands there that is no file, as a terminal or a pipe: it can't be replaced, only written to.
+    /// Whether something stands there that is no file, as a terminal or a pipe: it can't be
+    /// replaced, only written to.
     pub fn is_no_file(&self) -> bool {
         match fs::metadata(self.rt, self.name.as_str()) {
             Ok(found) => !found.is_file(),
@@ -83,9 +87,10 @@ impl<'a, R: FileSystem> Place<'a, R> {
         }
     }
 
-    /// Takes the lock of the file, on `NAME.lock` beside it, whether the file stands or not. Then files that killed processes left
-    /// beside it are removed, `NAME.new-` and 16 hex digits, and each file that is made beside it from then on has such a name. What a
-    /// replacement needs is kept open.
+    /// Takes the lock of the file, on `NAME.lock` beside it, whether the file stands or not. Then
+    /// files that killed processes left beside it are removed, `NAME.new-` and 16 hex digits, and
+    /// each file that is made beside it from then on has such a name. What a replacement needs is
+    /// kept open.
     ///
     /// # Errors
     ///
@@ -202,7 +207,8 @@ impl<R: FileSystem> Disk for Place<'_, R> {
     }
 
     fn remove(&mut self) {
-        // Nothing better can be done where that fails: the file stays, and the next one gets another name.
+        // Nothing better can be done where that fails: the file stays, and the next one gets
+        // another name.
         let _ = fs::remove_file(self.rt, self.beside.as_str());
     }
 }
@@ -223,7 +229,8 @@ pub fn replace_file<R: FileSystem, C: Content>(
     replace(rt.alloc(), &mut place, content)
 }
 
-/// The name of the file that a name leads to by links, where there is a file and its name is text; else the name itself.
+/// The name of the file that a name leads to by links, where there is a file and its name is text;
+/// else the name itself.
 pub(crate) fn real_name<R: FileSystem>(rt: &R, name: &str) -> Result<String, AllocError> {
     match fs::canonicalize(rt, name) {
         Ok(path) => String::from_str(rt.alloc(), path.to_str().unwrap_or(name)),

@@ -11,8 +11,8 @@ use thiserror::Error;
 
 /// Why a file was not replaced.
 ///
-/// After all but `Rename` and `SyncFolder` the old file is surely still there. After these two a crash may leave the
-/// old one or the new one, whole.
+/// After all but `Rename` and `SyncFolder` the old file is surely still there. After these two a
+/// crash may leave the old one or the new one, whole.
 #[derive(Clone, Copy, Debug, PartialEq, Eq, Error)]
 pub enum ReplaceFault {
     /// No file could be made beside the old one.
@@ -35,11 +35,12 @@ pub enum ReplaceFault {
     SyncFolder,
 }
 
-/// Replaces a file by one with this content, or makes it: makes a new file beside it, writes the content, sends it to
-/// the device, gives it the old one's name, and sends the folder to the device.
+/// Replaces a file by one with this content, or makes it: makes a new file beside it, writes the
+/// content, sends it to the device, gives it the old one's name, and sends the folder to the
+/// device.
 ///
-/// `Ok` comes only after all five. Nothing is renamed before its bytes were written and sent to the device, and nothing
-/// is written after that. A new file that was not given the name is removed.
+/// `Ok` comes only after all five. Nothing is renamed before its bytes were written and sent to the
+/// device, and nothing is written after that. A new file that was not given the name is removed.
 ///
 /// # Errors
 ///
@@ -68,8 +69,9 @@ pub fn replace<D: Disk, C: Content>(
     finish(disk, file)
 }
 
-/// The second half of a replacement, for who wrote the new file's bytes otherwise than from a [`Content`]: sends it to the device,
-/// gives it the old one's name, and sends the folder to the device.
+/// The second half of a replacement, for who wrote the new file's bytes otherwise than from a
+/// [`Content`]: sends it to the device, gives it the old one's name, and sends the folder to the
+/// device.
 ///
 /// `Ok` comes only after all three. A new file that was not given the name is removed.
 ///
@@ -105,7 +107,8 @@ pub enum SettleFault {
     SyncFolder,
 }
 
-/// Sends a file that stands to the device, and then its name: whoever replaced it may have been killed before.
+/// Sends a file that stands to the device, and then its name: whoever replaced it may have been
+/// killed before.
 ///
 /// # Errors
 ///

@@ -11,8 +11,9 @@ use std::rt::Files;
 /// The bits of a mode by which others than the owner may use a file.
 const OTHERS: u32 = 0o077;
 
-/// A file system: std's [`Files`], and what is needed of open files beside that. [`HostRuntime`] has that of the system; one that
-/// stands in for it can lose, cut and refuse what it likes, and is what a simulation runs the same code on.
+/// A file system: std's [`Files`], and what is needed of open files beside that. [`HostRuntime`]
+/// has that of the system; one that stands in for it can lose, cut and refuse what it likes, and is
+/// what a simulation runs the same code on.
 pub trait FileSystem: Files + AllocGlobal + RandomSource + Clone + Copy + Drop {
     /// Reads some bytes at a place, and answers how many came. Where the file is read next stays.
     fn read_at(&self, file: &Self::File, buffer: &mut [u8], at: u64) -> io::Result<usize>
@@ -24,7 +25,8 @@ pub trait FileSystem: Files + AllocGlobal + RandomSource + Clone + Copy + Drop {
     /// Writes all of these bytes at a place.
     fn write_all_at(&self, file: &Self::File, bytes: &[u8], at: u64) -> io::Result<()>;
 
-    /// Takes the lock that belongs to an open file, unless another process has it. It is given back when the file is closed.
+    /// Takes the lock that belongs to an open file, unless another process has it. It is given back
+    /// when the file is closed.
     fn try_lock(&self, file: &Self::File) -> Result<(), TryLockError>;
 
     /// Gives an open file the owner and the group of another, where the system permits that.

@@ -4,7 +4,7 @@ use Rattle.rand_chacha.specs.ChaCha.{ChaCha, word_at, key_of}
 use Rattle.matrix_u32.specs.Sum.{list_of}
 use Rattle.matrix_u32.specs.Matrix.{row}
 use Rattle.matrix_u32.proofs.Products.{same-list_of, row-matrix_of}
-use Rattle.seed_expand.specs.Words.{word, word_here, source_word, source_at, words_from, further, rows_from, public_rows}
+use Rattle.seed_expand.specs.Words.{word, word_here, source_word, source_at, words_from, further, source_rows, public_rows}
 
 -- to read on twice is to read on once, by both counts
 pub further-further : (source : ChaCha) (first then : ℕ) → further (further source first) then ≡ further source (first + then)
@@ -30,7 +30,7 @@ words-source_at seed stream place count =
     same-list_of count _ (λ k. word seed stream (place + k)) (λ k _. source_word-source_at seed stream place k)
 
 -- the rows of a source at the start of a stream are those of its public matrix
-pub rows-source_at : (seed : List ℕ) (stream rows n : ℕ) → rows_from (source_at seed stream 0) rows n ≡ public_rows seed stream 0 rows n
+pub rows-source_at : (seed : List ℕ) (stream rows n : ℕ) → source_rows (source_at seed stream 0) rows n ≡ public_rows seed stream 0 rows n
 rows-source_at seed stream rows n =
     let at : (i j : ℕ) → source_word (source_at seed stream 0) (i * n + j) ≡ word seed stream ((0 + i) * n + j) = λ i j.
     let first : 0 + i ≡ i = omega arith in
@@ -38,7 +38,7 @@ rows-source_at seed stream rows n =
     ap (λ (words : List ℕ). record { rows = rows; cols = n; words = words }) (same-list_of (rows * n) _ _ (λ k _. at (k / n) (k % n)))
 
 -- what a source gives once it has given i rows is row i
-pub row-rows_from : (source : ChaCha) (rows n i : ℕ) → i < rows → list_of n (source_word (further source (i * n))) ≡ row (rows_from source rows n) i
-row-rows_from source rows n i inside =
+pub row-source_rows : (source : ChaCha) (rows n i : ℕ) → i < rows → list_of n (source_word (further source (i * n))) ≡ row (source_rows source rows n) i
+row-source_rows source rows n i inside =
     same-list_of n _ (λ j. source_word source (i * n + j)) (λ k _. ap word_here (further-further source (i * n) k))
     ∙ sym (row-matrix_of rows n (λ i j. source_word source (i * n + j)) i inside)

@@ -2,7 +2,7 @@
 use Rattle.std.specs.Prelude.{◌≡◌, ℕ, ◌+◌, ◌-◌, ◌^◌, ◌<◌, ◌≤◌, List}
 use Rattle.rand_chacha.specs.ChaCha.{ChaCha}
 use Rattle.matrix_u32.specs.Matrix.{with_rows, first_rows}
-use Rattle.seed_expand.specs.Words.{word, source_at, further, source_word, public_rows, rows_from}
+use Rattle.seed_expand.specs.Words.{word, source_at, further, source_word, public_rows, source_rows}
 
 -- a source gives the words of its seed and stream from its place on
 abbrev pub SourceGivesWords : Type 0
@@ -10,7 +10,7 @@ SourceGivesWords = (seed : List ℕ) (stream place k : ℕ) → source_word (sou
 
 -- a source that stands at the start of a stream gives the rows of its public matrix
 abbrev pub SourceGivesRows : Type 0
-SourceGivesRows = (seed : List ℕ) (stream rows n : ℕ) → rows_from (source_at seed stream 0) rows n ≡ public_rows seed stream 0 rows n
+SourceGivesRows = (seed : List ℕ) (stream rows n : ℕ) → source_rows (source_at seed stream 0) rows n ≡ public_rows seed stream 0 rows n
 
 -- what reading on does
 pub record PlacesRunOn : Type 0 where

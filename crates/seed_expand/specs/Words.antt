@@ -4,8 +4,8 @@ use Rattle.rand_chacha.specs.ChaCha.{ChaCha, word_at, key_of}
 use Rattle.matrix_u32.specs.Sum.{list_of}
 use Rattle.matrix_u32.specs.Matrix.{WordMatrix, matrix_of}
 
--- the word at a place of a seed's stream: of ChaCha20, which has ten double rounds, with the seed as its key and the
--- stream as its nonce; places run on modulo 2 ^ 68
+-- the word at a place of a seed's stream: of ChaCha20, which has ten double rounds, with the seed
+-- as its key and the stream as its nonce; places run on modulo 2 ^ 68
 unfoldable pub word : List ℕ → ℕ → ℕ → ℕ
 word seed stream place = word_at 10 (key_of seed) stream (place % 2 ^ 68)
 
@@ -13,7 +13,8 @@ word seed stream place = word_at 10 (key_of seed) stream (place % 2 ^ 68)
 abbrev pub words_from : List ℕ → ℕ → ℕ → ℕ → List ℕ
 words_from seed stream first count = list_of count (λ k. word seed stream (first + k))
 
--- rows of the public matrix of a stream, which has n columns, from a row on: row i begins at place i n
+-- rows of the public matrix of a stream, which has n columns, from a row on: row i begins at place
+-- i n
 abbrev pub public_rows : List ℕ → ℕ → ℕ → ℕ → ℕ → WordMatrix
 public_rows seed stream first_row rows n = matrix_of rows n (λ i j. word seed stream ((first_row + i) * n + j))
 
@@ -34,5 +35,5 @@ abbrev pub source_word : ChaCha → ℕ → ℕ
 source_word source count = word_here (further source count)
 
 -- the matrix whose words a source gives, row by row
-abbrev pub rows_from : ChaCha → ℕ → ℕ → WordMatrix
-rows_from source rows n = matrix_of rows n (λ i j. source_word source (i * n + j))
+abbrev pub source_rows : ChaCha → ℕ → ℕ → WordMatrix
+source_rows source rows n = matrix_of rows n (λ i j. source_word source (i * n + j))

@@ -4,13 +4,14 @@
 //! with a 64-bit block counter and a 64-bit nonce: the seed is the key, the stream's number is the
 //! nonce, and a place counts the 32-bit words of a stream from block 0 on, sixteen to a block.
 //!
-//! Its tests are in tests/long/seed_expand and in `scheme_tests::sources`.
+//! Its tests are in tests/long/seed_expand and in `tests_scheme::sources`.
 #![tactic(auto)]
 
 ghost use Rattle.std.specs.Prelude.{◌≡◌, ℕ, ◌+◌, ◌%◌, ◌^◌, ◌<◌, ◌≤◌, IfOk, length};
 ghost use Rattle.matrix_u32.specs.Sum.{list_of};
 ghost use Rattle.matrix_u32.specs.Matrix.{times_vector};
-ghost use Rattle.seed_expand.specs.Words.{source_at, further, word_here, source_word, words_from, public_rows, rows_from};
+ghost use Rattle.seed_expand.specs.Words.{source_at, further, word_here, source_word, words_from};
+ghost use Rattle.seed_expand.specs.Words.{public_rows, source_rows};
 ghost use Rattle.seed_expand.specs.Laws.{SourceGivesWords, SourceGivesRows, PlacesRunOn, RowsRunOn};
 
 use matrix_u32::{Kernel, Matrix};
@@ -20,8 +21,8 @@ use rand_core::utils::NextWord;
 use std::alloc::{AllocError, Global};
 use std::marker::Model;
 
-// A source is a generator of the library's: what is proved of it here is which word each place gives, and that the places of
-// a stream run on from block to block.
+// A source is a generator of the library's: what is proved of it here is which word each place
+// gives, and that the places of a stream run on from block to block.
 
 /// The words of one stream of a seed, read one after another from a place on.
 ///
@@ -130,8 +131,9 @@ pub fn expand(
     Ok(Matrix::from_words(rows, n, words).unwrap())
 }
 
-/// The matrix whose words a source gives, row by row, times a vector: a word for each row, of which there are as many as
-/// `out` has words; a row has as many words as `x`. The rows are made one after another in the memory of one, which is `row`.
+/// The matrix whose words a source gives, row by row, times a vector: a word for each row, of which
+/// there are as many as `out` has words; a row has as many words as `x`. The rows are made one
+/// after another in the memory of one, which is `row`.
 pub fn expand_times<K: Kernel>(
     kernel: K,
     mut source: WordSource,
@@ -141,7 +143,7 @@ pub fn expand_times<K: Kernel>(
 )
     requires { length row.old ≡ length x.now }
     ensures words { out.new ≡
-        times_vector (rows_from source (length out.old) (length x.now)) x.now }
+        times_vector (source_rows source (length out.old) (length x.now)) x.now }
     ensures row { length row.new ≡ length row.old }
 {
     // Called for its bound: a place below 2^68 stays where it is when there are no rows.
@@ -162,13 +164,14 @@ pub fn source_gives_rows()
     ensures { SourceGivesRows }
 {}
 
-/// Places run on: a source that was read on is read on from there, and after the last place, 2^68 - 1,
-/// a stream begins anew.
+/// Places run on: a source that was read on is read on from there, and after the last place, 2^68 -
+/// 1, a stream begins anew.
 pub fn places_run_on()
     ensures { PlacesRunOn }
 {}
 
-/// Rows run on: rows of a public matrix and those after them, made apart, are the rows made at once.
+/// Rows run on: rows of a public matrix and those after them, made apart, are the rows made at
+/// once.
 pub fn rows_run_on()
     ensures { RowsRunOn }
 {}

@@ -5,7 +5,8 @@ use Rattle.snapshot_file.specs.declared.snapshot.Header.{Header}
 use Rattle.server_words.specs.declared.make_line.Making.{Making}
 use Rattle.server_commands.specs.declared.making.Keys.{Keys}
 
--- the fields of version 1 of so many records: the form, or the wide one of it; secrets of 1024 words; and the digest of the publisher's key
+-- the fields of version 1 of so many records: the form, or the wide one of it; secrets of 1024
+-- words; and the digest of the publisher's key
 abbrev pub header_made : Making → Keys → ℕ → Header
 header_made making keys count = record {
   form = if making.wide then (making.form + 128) % 256 else making.form;

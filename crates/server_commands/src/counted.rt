@@ -14,15 +14,18 @@ use session_core::Header;
 use std::alloc::Global;
 use std::io::Read;
 
-/// Makes a snapshot file of version 1 of the records on standard input, which are to be as many as the header says, and answers how
-/// many there are. They pass through a few buffers, and stand nowhere as a whole.
+/// Makes a snapshot file of version 1 of the records on standard input, which are to be as many as
+/// the header says, and answers how many there are. They pass through a few buffers, and stand
+/// nowhere as a whole.
 ///
 /// # Errors
 ///
-/// The file is locked, and the new one beside it begun, before the records are read, and yet the faults of the input come first. In
-/// this order: `BadLayout` where no store has the header's layout, after `Read` and `BadRecords` of an input of more bytes than the
-/// largest store has; `Read`, `BadRecords` where there are fewer or more records, or a line is none that fits; `Locked`, `Exists`
-/// where the file is to be new and is not, `File`, `Write`. `Memory` where there was none. Whatever stood at the name stays then.
+/// The file is locked, and the new one beside it begun, before the records are read, and yet the
+/// faults of the input come first. In this order: `BadLayout` where no store has the header's
+/// layout, after `Read` and `BadRecords` of an input of more bytes than the largest store has;
+/// `Read`, `BadRecords` where there are fewer or more records, or a line is none that fits;
+/// `Locked`, `Exists` where the file is to be new and is not, `File`, `Write`. `Memory` where there
+/// was none. Whatever stood at the name stays then.
 pub fn make_counted(rt: &HostRuntime, making: &Making<'_>, header: &Header) -> Result<u32, Failed> {
     if !header.is_accepted() {
         return Err(no_such_store(rt, making, header));

@@ -1,5 +1,6 @@
-//! What `pir_server`'s commands do beside `run`: snapshots that are made, shown, moved into slots or into wide stores, copied and given another
-//! key, and a store that is served on one connection after the other.
+//! What `pir_server`'s commands do beside `run`: snapshots that are made, shown, moved into slots
+//! or into wide stores, copied and given another key, and a store that is served on one connection
+//! after the other.
 //!
 //! Its tests are in `tests/causes`, `tests/log`, `tests/making` and `tests/loopback`.
 #![tactic(auto)]

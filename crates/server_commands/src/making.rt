@@ -45,16 +45,18 @@ pub struct Keys {
     publisher: [u8; 32],
 }
 
-/// Makes a snapshot file of version 1 of the records on standard input, and answers how many there are. No hint is made
-/// for it.
+/// Makes a snapshot file of version 1 of the records on standard input, and answers how many there
+/// are. No hint is made for it.
 ///
 /// # Errors
 ///
-/// With `--count` the records are written as they are read, as [`make_counted`] says. Without it, in this order: those of the files of the seed and of the key (`File`, `Value`), `Exists` where the file is to be new and something
-/// stands at its name, those of the input (`Read`,
-/// `BadRecords` where there are more bytes than the largest store has), `BadLayout` where no store has this layout,
-/// `BadRecords` where these are not whole records or a line is none that fits, those of the file (`Locked` where another
-/// process has it, `Exists` once more, `File`, `Write`). `Memory` where there was none.
+/// With `--count` the records are written as they are read, as [`make_counted`] says. Without it,
+/// in this order: those of the files of the seed and of the key (`File`, `Value`), `Exists` where
+/// the file is to be new and something stands at its name, those of the input (`Read`, `BadRecords`
+/// where there are more bytes than the largest store has), `BadLayout` where no store has this
+/// layout, `BadRecords` where these are not whole records or a line is none that fits, those of the
+/// file (`Locked` where another process has it, `Exists` once more, `File`, `Write`). `Memory`
+/// where there was none.
 pub fn make(rt: &HostRuntime, making: &Making<'_>) -> Result<u32, Failed> {
     let keys = Keys {
         seed: making
@@ -103,7 +105,8 @@ fn make_of_bytes(rt: &HostRuntime, making: &Making<'_>, keys: &Keys) -> Result<u
     write_made(rt, making, &header, &records)
 }
 
-/// The most bytes that the records of a store have. Lines of hex have fewer than twice those of their slots.
+/// The most bytes that the records of a store have. Lines of hex have fewer than twice those of
+/// their slots.
 pub fn most_bytes(wide: bool) -> usize
     ensures { result ≤ 1207959552 }
 {
@@ -183,7 +186,8 @@ fn fill_slots(alloc: Global, layout: &Layout, slots: &mut [u8], text: &str) -> R
     Ok(())
 }
 
-/// The record in a line, the number of which is counted from 0. It fits into a slot of so many bytes.
+/// The record in a line, the number of which is counted from 0. It fits into a slot of so many
+/// bytes.
 ///
 /// # Errors
 ///
@@ -208,7 +212,8 @@ pub fn record_of_line(
     }
 }
 
-/// How a line that is no record of its store fails; the first line, which is said to be line 1, has the number 0.
+/// How a line that is no record of its store fails; the first line, which is said to be line 1, has
+/// the number 0.
 pub fn bad_line(alloc: Global, line: usize, why: &str) -> Failed {
     let number = line as u128 + 1;
     let cause = format!(in alloc; "standard input, line {number}: {why}");
@@ -240,7 +245,8 @@ fn wide_limit(limit: LayoutError) -> &'static str {
         LayoutError::BadWidth => "a digit of a wide store has 6 to 9 bits",
         LayoutError::BadRecord => "a record has 1 to 256 bytes",
         LayoutError::BadGroups => {
-            "a column of a wide store holds at least one record and at most 32768 digits, and a query at most 4128768 words for them"
+            "a column of a wide store holds at least one record and at most 32768 digits, and a \
+                query at most 4128768 words for them"
         }
         LayoutError::BadCount => "a wide store has 1 to 32768 columns of records",
     }

@@ -9,13 +9,14 @@ use server_words::{KEY_TAKES, Rekeying};
 use session_core::Header;
 use sha2::{Digest, Sha256};
 
-/// Gives a snapshot file another publisher's key, and prints how many records it has and its version. All else in it
-/// stays.
+/// Gives a snapshot file another publisher's key, and prints how many records it has and its
+/// version. All else in it stays.
 ///
 /// # Errors
 ///
-/// In this order: those of the key's file (`File`, `Value`), `File` where there is no file, `Locked` where another process has
-/// it, those of its snapshot and its log (`BadLog`), and those of the new file (`File`, `Write`). `Memory` where there was none.
+/// In this order: those of the key's file (`File`, `Value`), `File` where there is no file,
+/// `Locked` where another process has it, those of its snapshot and its log (`BadLog`), and those
+/// of the new file (`File`, `Write`). `Memory` where there was none.
 pub fn rekey(rt: &HostRuntime, rekeying: &Rekeying<'_>) -> Result<(), Failed> {
     let key = match rekeying.key.key(rt, KEY_TAKES) {
         Ok(key) => key,

@@ -19,21 +19,25 @@ use version_store::Unwatched;
 /// The most reads that one connection's session makes.
 const TURNS: u64 = 1_000_000;
 
-/// The most reads of what a peer sent after the end of its session: those of one frame of the largest size.
+/// The most reads of what a peer sent after the end of its session: those of one frame of the
+/// largest size.
 const DRAIN_READS: u32 = 257;
 
 /// How many milliseconds one of these reads waits at most.
 const DRAIN_WAIT: u64 = 100;
 
-/// Serves a snapshot file with its log over connections, one after the other. After each in which a version was published the file is
-/// replaced, and then needs no log. No other process serves or replaces it meanwhile.
+/// Serves a snapshot file with its log over connections, one after the other. After each in which a
+/// version was published the file is replaced, and then needs no log. No other process serves or
+/// replaces it meanwhile.
 ///
 /// # Errors
 ///
-/// In this order: `File` where there is no file, `Locked` where another process has it, those of the snapshot, `Write` where the
-/// file can't be sent to the device, those of its log (`File`, `BadLog`), `Connect` where the port can't be listened on, and after a connection
-/// that published `File` where the file can't be made anew and `Write` where it can't be written. `Memory` where there was none. A
-/// connection that ends with a fault is reported on standard error, and ends nothing else.
+/// In this order: `File` where there is no file, `Locked` where another process has it, those of
+/// the snapshot, `Write` where the file can't be sent to the device, those of its log (`File`,
+/// `BadLog`), `Connect` where the port can't be listened on, and after a connection that published
+/// `File` where the file can't be made anew and `Write` where it can't be written. `Memory` where
+/// there was none. A connection that ends with a fault is reported on standard error, and ends
+/// nothing else.
 pub fn serve_file(rt: &HostRuntime, serving: &Serving<'_>) -> Result<(), Failed> {
     let mut file = match OwnFile::to_read(rt, serving.file) {
         Ok(file) => file,
@@ -94,7 +98,8 @@ fn save_published(
     write_anew(rt, file, &VersionOf(store))
 }
 
-// The store of a file and its log, and the version that both have. The log stays as it is, and none is made.
+// The store of a file and its log, and the version that both have. The log stays as it is, and none
+// is made.
 fn open_to_serve(
     rt: &HostRuntime,
     file: &mut OwnFile<'_>,

@@ -71,7 +71,8 @@ fn add(text: &mut String, line: Result<String, AllocError>) -> Result<(), AllocE
     text.push_str(&line?)
 }
 
-// How many records there are, and their length: in form 2 the most that a slot has room for, and that of the longest one.
+// How many records there are, and their length: in form 2 the most that a slot has room for, and
+// that of the longest one.
 fn records_line(alloc: Global, snapshot: &Snapshot, layout: &Layout) -> Result<String, AllocError> {
     let count = layout.count();
     let len = layout.record_len();
@@ -123,7 +124,8 @@ fn name_of(scheme: Scheme) -> &'static str {
     }
 }
 
-// Whether every retrieval gives its record, whatever noise is drawn, or else how rarely a digit of one is misread.
+// Whether every retrieval gives its record, whatever noise is drawn, or else how rarely a digit of
+// one is misread.
 fn certainty_of(alloc: Global, scheme: Scheme, layout: &Layout) -> Result<String, AllocError> {
     let name = name_of(scheme);
     if is_certain(scheme, layout) {

@@ -12,8 +12,8 @@ use std::alloc::{AllocError, Global};
 use std::io::{ErrorKind, Read};
 use std::{io, str};
 
-/// A reader of the slots of some records, of which another reader has a line each. A line that is no record ends it by an error, and what
-/// failed is kept.
+/// A reader of the slots of some records, of which another reader has a line each. A line that is
+/// no record ends it by an error, and what failed is kept.
 #[derive(Drop)]
 pub struct SlotReader<R> {
     alloc: Global,
@@ -85,7 +85,8 @@ impl<R: Read + Drop> SlotReader<R> {
         Ok(true)
     }
 
-    // Reads the next line, without its end, and answers whether there is one. The last one may lack its line feed.
+    // Reads the next line, without its end, and answers whether there is one. The last one may lack
+    // its line feed.
     fn next_line(&mut self) -> Result<bool, Failed> {
         self.line.clear();
         let most = 2 * usize::from(self.slot_len);
@@ -152,7 +153,8 @@ impl<R: Read + Drop> Read for SlotReader<R> {
     }
 }
 
-// Copies the bytes of a slot after the first ones, as many as there is room for, and answers how many these are.
+// Copies the bytes of a slot after the first ones, as many as there is room for, and answers how
+// many these are.
 fn give_out(slot: &[u8], given: usize, buffer: &mut [u8]) -> usize
     ensures count { result ≡ min (length slot.now - given) (length buffer.old) }
     ensures bytes { take result buffer.new ≡ take result (drop given slot.now) }

@@ -9,7 +9,7 @@ use Rattle.std.proofs.lemmas.List.Concat.{flat_map-append}
 use Rattle.frame_codec.specs.declared.frame.Frame.{Frame}
 use Rattle.frame_codec.specs.declared.reader.ReadFault.{ReadFault}
 use Rattle.frame_codec.specs.declared.reader.ReadFault.TheVariants.{Memory}
-use Rattle.frame_codec.specs.declared.reader.Taken.{Taken}
+use Rattle.frame_codec.specs.declared.reader.FrameRead.{FrameRead}
 use Rattle.frame_codec.specs.Frames.{IsFrame, encoding}
 use Rattle.frame_codec.specs.Streams.{Feeds, FeedsFrame}
 use Rattle.frame_codec.proofs.Runs.{all_append}
@@ -23,18 +23,18 @@ use Rattle.server_core.proofs.Pieces.{stays_live, unread, ended}
 use Rattle.server_core.proofs.Runs.{serves_one}
 
 -- so many bytes of the piece are what the reader was fed
-pub fed_used : (wide : Bool) (old : Option (List ℕ)) (piece : List ℕ) (answer : Result Taken ReadFault) (new : Option (List ℕ)) → FeedsFrame wide old piece answer new →
+pub fed_used : (wide : Bool) (old : Option (List ℕ)) (piece : List ℕ) (answer : Result FrameRead ReadFault) (new : Option (List ℕ)) → FeedsFrame wide old piece answer new →
     Feeds wide old (take (bytes_used piece answer) piece) (reading_end answer) (frames_taken answer) new
 fed_used wide old piece (Ok t) new f = f.fed
 fed_used wide old piece (Err fault) new f = rw take-length f
 
-pub used_within : (wide : Bool) (old : Option (List ℕ)) (piece : List ℕ) (answer : Result Taken ReadFault) (new : Option (List ℕ)) → FeedsFrame wide old piece answer new →
+pub used_within : (wide : Bool) (old : Option (List ℕ)) (piece : List ℕ) (answer : Result FrameRead ReadFault) (new : Option (List ℕ)) → FeedsFrame wide old piece answer new →
     bytes_used piece answer ≤ length piece
 used_within wide old piece (Ok t) new f = f.within
 used_within wide old piece (Err fault) new f = omega arith
 
 -- a byte at least, where there is one
-pub used_some : (wide : Bool) (old : Option (List ℕ)) (piece : List ℕ) (answer : Result Taken ReadFault) (new : Option (List ℕ)) → FeedsFrame wide old piece answer new →
+pub used_some : (wide : Bool) (old : Option (List ℕ)) (piece : List ℕ) (answer : Result FrameRead ReadFault) (new : Option (List ℕ)) → FeedsFrame wide old piece answer new →
     0 < length piece → 0 < bytes_used piece answer
 used_some wide old piece (Ok t) new f some = by_frame t.frame f.whole f.ends
   where
@@ -43,13 +43,13 @@ used_some wide old piece (Ok t) new f some = by_frame t.frame f.whole f.ends
     by_frame (Some g) whole ends = ends.0
 used_some wide old piece (Err fault) new f some = some
 
-pub first_live : (wide : Bool) (old : Option (List ℕ)) (piece : List ℕ) (answer : Result Taken ReadFault) (new : Option (List ℕ)) (after : Standing) →
+pub first_live : (wide : Bool) (old : Option (List ℕ)) (piece : List ℕ) (answer : Result FrameRead ReadFault) (new : Option (List ℕ)) (after : Standing) →
     FeedsFrame wide old piece answer new → (is_closed after ≡ false → IsOk (reading_end answer)) → IsLive after new
 first_live wide old piece answer new after f live =
     stays_live wide old (take (bytes_used piece answer) piece) (reading_end answer) (frames_taken answer) new after (fed_used wide old piece answer new f) live
 
 -- an open session's reading that stopped without a fault was refused memory
-pub first_unread : (x : Setting) (old : Option (List ℕ)) (piece : List ℕ) (answer : Result Taken ReadFault) (new : Option (List ℕ)) → old ≢ None →
+pub first_unread : (x : Setting) (old : Option (List ℕ)) (piece : List ℕ) (answer : Result FrameRead ReadFault) (new : Option (List ℕ)) → old ≢ None →
     FeedsFrame (is_wide_setting x) old piece answer new → IsUnjudged (reading_end answer) → IsFirstUnread x old piece new
 first_unread x old piece (Ok t) new live f u = absurd u
 first_unread x old piece (Err fault) new live f u =
@@ -59,7 +59,7 @@ first_unread x old piece (Err fault) new live f u =
 -- ---- served, or not
 
 pub first_well : (x : Setting) (h : History) (old : Session) (piece : List ℕ) (store : StoreState) (after : Standing) (u : Option (List ℕ))
-    (before new : List ℕ) (answer : Result Taken ReadFault) → is_closed old.standing ≡ false → FeedsFrame (is_wide_setting x) old.unfinished piece answer u →
+    (before new : List ℕ) (answer : Result FrameRead ReadFault) → is_closed old.standing ≡ false → FeedsFrame (is_wide_setting x) old.unfinished piece answer u →
     ServedFrames x h old.standing (frames_taken answer) (reading_end answer) store after before new
     → FedFirst x h old piece (Ok (bytes_used piece answer)) store (record { standing = after; unfinished = u }) before new
 first_well x h old piece store after u before new answer open_ reads s =
@@ -89,7 +89,7 @@ first_well x h old piece store after u before new answer open_ reads s =
     }
 
 pub first_short : (x : Setting) (h : History) (old : Session) (piece : List ℕ) (e : AllocError) (store : StoreState) (u : Option (List ℕ))
-    (before new : List ℕ) (answer : Result Taken ReadFault) → is_closed old.standing ≡ false → FeedsFrame (is_wide_setting x) old.unfinished piece answer u →
+    (before new : List ℕ) (answer : Result FrameRead ReadFault) → is_closed old.standing ≡ false → FeedsFrame (is_wide_setting x) old.unfinished piece answer u →
     HasTaken answer → setting_of store ≡ x → StandsFor store h → new ≡ before
     → FedFirst x h old piece (Err e) store (record { standing = Closed; unfinished = u }) before new
 first_short x h old piece e store u before new answer open_ reads stop set stands same = record {
@@ -186,7 +186,7 @@ firsts_are_pieces x h old piece count h2 new replies f = by_state (is_closed old
       all = f.all;
     }
 
-stops_there : (answer : Result Taken ReadFault) → HasTaken answer → IsStop (reading_end answer) (frames_taken answer) 0
+stops_there : (answer : Result FrameRead ReadFault) → HasTaken answer → IsStop (reading_end answer) (frames_taken answer) 0
 stops_there (Ok t) has = by_frame t.frame has
   where
     by_frame : (o : Option Frame) → IsSome o → IsStop (Ok tt) (option_to_list o) 0

@@ -7,7 +7,7 @@ use Rattle.frame_codec.specs.declared.frame.Frame.{Frame}
 use Rattle.frame_codec.specs.declared.frame.Frame.TheVariants.{Publish, Done}
 use Rattle.frame_codec.specs.declared.refusal.Refusal.TheVariants as refusal
 use Rattle.frame_codec.specs.Refusals.{refused}
-use Rattle.frame_codec.specs.declared.reader.Taken.{Taken}
+use Rattle.frame_codec.specs.declared.reader.FrameRead.{FrameRead}
 use Rattle.frame_codec.specs.declared.reader.ReadFault.{ReadFault}
 use Rattle.frame_codec.specs.declared.reader.ReadFault.TheVariants.{TooLong, UnknownKind, BadPayload, Memory, Failed}
 use Rattle.frame_codec.specs.Frames.{IsFrame, encoding, payload_of}
@@ -123,21 +123,21 @@ told store after h end o replies others more reported out written e s end_is rep
 
 -- the frame that is served is the publication
 served : (x : Setting) (h : History) (standing : Standing) (unfinished : Option (List ℕ)) (piece : List ℕ) (store after : StoreState) (count : ℕ)
-    (h2 : History) (new : Session) (replies : List Frame) (out written : List ℕ) (answer : Result Taken ReadFault)
+    (h2 : History) (new : Session) (replies : List Frame) (out written : List ℕ) (answer : Result FrameRead ReadFault)
     → StandsFor store h → MayPublish standing store → HasPublishNext unfinished piece → standing ≡ Publisher
     → (w : ServesFrame x h (record { standing = standing; unfinished = unfinished }) piece count h2 new replies) → w.answer ≡ answer
     → StandsFor after h2 → written ≡ out ++ flat_map encoding replies → Told store after out written
 served x h standing None piece store after count h2 new replies out written answer s may next is w a stands bytes = absurd next
 served x h standing (Some kept) piece store after count h2 new replies out written (Err fault) s may next is w a stands bytes =
-    let reads = subst (λ (r : Result Taken ReadFault). FeedsFrame (is_wide_setting x) (Some kept) piece r new.unfinished) a w.reads in
-    let serves = subst (λ (r : Result Taken ReadFault). ServesAll x h standing (frames_taken r) h2 w.middle w.reported) a w.serves in
+    let reads = subst (λ (r : Result FrameRead ReadFault). FeedsFrame (is_wide_setting x) (Some kept) piece r new.unfinished) a w.reads in
+    let serves = subst (λ (r : Result FrameRead ReadFault). ServesAll x h standing (frames_taken r) h2 w.middle w.reported) a w.serves in
     let open_ : is_closed w.middle ≡ false = ap is_closed (serves.1 ∙ is) in
     let ends = rw (a, open_) at w.ends in
     absurd (no_fault (is_wide_setting x) kept piece fault new.unfinished w.middle new.standing w.more (Publish, next.0, publish_fits_in (is_wide_setting x), next.1) reads ends)
 served x h standing (Some kept) piece store after count h2 new replies out written (Ok taken) s may next is w a stands bytes =
-    let reads = subst (λ (r : Result Taken ReadFault). FeedsFrame (is_wide_setting x) (Some kept) piece r new.unfinished) a w.reads in
+    let reads = subst (λ (r : Result FrameRead ReadFault). FeedsFrame (is_wide_setting x) (Some kept) piece r new.unfinished) a w.reads in
     let frame = taken_is (is_wide_setting x) kept piece next.0 reads.fed.0 taken.count taken.frame next.1 (reads.fed.1) reads.whole in
-    let first = subst (λ (r : Result Taken ReadFault). ServesAll x h standing (frames_taken r) h2 w.middle w.reported) a w.serves in
+    let first = subst (λ (r : Result FrameRead ReadFault). ServesAll x h standing (frames_taken r) h2 w.middle w.reported) a w.serves in
     let second = subst (λ (fs : List Frame). ServesAll x h standing fs h2 w.middle w.reported) frame first in
     let serves = subst (λ (st : Standing). ServesAll x h st (Publish ∷ []) h2 w.middle w.reported) is second in
     let ends = either _ (is_closed w.middle) (rw a at w.ends) in

@@ -4,7 +4,7 @@ use Rattle.std.specs.List.{flat_map}
 use Rattle.std.proofs.lemmas.List.{append-nil, take-append-drop}
 use Rattle.frame_codec.specs.declared.frame.Frame.{Frame}
 use Rattle.frame_codec.specs.declared.frame.Frame.TheVariants.{Publish}
-use Rattle.frame_codec.specs.declared.reader.Taken.{Taken}
+use Rattle.frame_codec.specs.declared.reader.FrameRead.{FrameRead}
 use Rattle.frame_codec.specs.declared.reader.ReadFault.{ReadFault}
 use Rattle.frame_codec.specs.Frames.{encoding}
 use Rattle.frame_codec.specs.Streams.{FeedsFrame, HasPublishNext}
@@ -17,7 +17,7 @@ publishes_since f before after (inl same) = inl same
 publishes_since f before after (inr made) = inr (f made.0, made.1)
 
 -- a reader that takes the frame Publish had it next
-pub taken_publish : (wide : Bool) (old : Option (List ℕ)) (piece : List ℕ) (answer : Result Taken ReadFault) (new : Option (List ℕ)) →
+pub taken_publish : (wide : Bool) (old : Option (List ℕ)) (piece : List ℕ) (answer : Result FrameRead ReadFault) (new : Option (List ℕ)) →
     FeedsFrame wide old piece answer new → frames_taken answer ≡ Publish ∷ [] → HasPublishNext old piece
 taken_publish wide old piece (Err fault) new f e = let no : [] ≡ Publish ∷ [] = e in cc
 taken_publish wide None piece (Ok taken) new f e = let no : Ok tt ≡ Err _ = f.fed.0 in cc

@@ -33,22 +33,25 @@ abbrev pub unfinished_in : Option Session → ℕ
 unfinished_in None = 0
 unfinished_in (Some s) = unfinished_size s.unfinished
 
--- the next frame of a session's stream is a publication that is made unless memory is refused; none where there is no session
+-- the next frame of a session's stream is a publication that is made unless memory is refused; none
+-- where there is no session
 abbrev pub WouldPublishIn : Option Session → List ℕ → StoreState → Type 0
 WouldPublishIn None piece store = ⊥
 WouldPublishIn (Some s) piece store = WouldPublish s piece store
 
--- A piece of the stream of this number's session makes its next frame a publication, which is made unless memory is refused.
+-- A piece of the stream of this number's session makes its next frame a publication, which is made
+-- unless memory is refused.
 abbrev pub PublishesNext : Core → ℕ → List ℕ → Type 0
 PublishesNext core id piece = WouldPublishIn (session_of core.sessions id) piece core.store
 
--- The next frame of a session's stream, which a piece completes, is a query that is answered in a scheme, if there is a session.
+-- The next frame of a session's stream, which a piece completes, is a query that is answered in a
+-- scheme, if there is a session.
 abbrev pub WouldAnswerIn : Option Session → List ℕ → StoreState → Scheme → Type 0
 WouldAnswerIn None piece store scheme = ⊥
 WouldAnswerIn (Some s) piece store scheme = WouldAnswer s piece store scheme
 
--- A piece of the stream of this number's session may be put off: its next frame is a query that is answered, or a publication that is made,
--- unless memory is refused.
+-- A piece of the stream of this number's session may be put off: its next frame is a query that is
+-- answered, or a publication that is made, unless memory is refused.
 abbrev pub MayWait : Core → ℕ → List ℕ → Type 0
 MayWait core id piece =
     ((scheme : Scheme) × WouldAnswerIn (session_of core.sessions id) piece core.store scheme) ⊎ PublishesNext core id piece
@@ -64,7 +67,8 @@ IsFirstUnreadBy x None piece new = ⊥
 IsFirstUnreadBy x (Some old) piece None = ⊥
 IsFirstUnreadBy x (Some old) piece (Some new) = IsFirstUnread x old.unfinished piece new.unfinished
 
--- What a piece did, as the answer says: all of it was served, or memory was refused. Without a session nothing is served.
+-- What a piece did, as the answer says: all of it was served, or memory was refused. Without a
+-- session nothing is served.
 abbrev pub FeedsCore : Setting → History → Session → List ℕ → Result (Unit {0}) FeedError → StoreState → Session → List ℕ → List ℕ → Type 0
 FeedsCore x h old piece (Ok done) store new before after = Fed x h old piece (Ok done) store new before after
 FeedsCore x h old piece (Err Memory) store new before after = (e : AllocError) × Fed x h old piece (Err e) store new before after

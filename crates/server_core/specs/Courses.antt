@@ -30,7 +30,8 @@ course_of x h st (f ∷ fs) =
     cond (is_closed st) (record { history = h; standing = st; replies = [] })
     (with_reply (outcome_of_frame x h st f) (course_of x (outcome_of_frame x h st f).history (outcome_of_frame x h st f).standing fs))
 
--- where the reading stops after frames that leave the session open: a fault is refused, and closes it
+-- where the reading stops after frames that leave the session open: a fault is refused, and closes
+-- it
 abbrev pub at_end : Result (Unit {0}) ReadFault → SessionCourse → SessionCourse
 at_end (Ok done) c = c
 at_end (Err fault) c = record { history = c.history; standing = Closed; replies = c.replies ++ refused refusal.BadFrame ∷ [] }
@@ -50,19 +51,21 @@ abbrev pub lacks_memory : List Frame → Bool
 lacks_memory [] = false
 lacks_memory (f ∷ fs) = is_memory f || lacks_memory fs
 
--- An open session's piece to which no memory was refused: not to its reading, and to none of the frames that were read, so that
--- each of them led to what the checks say.
+-- An open session's piece to which no memory was refused: not to its reading, and to none of the
+-- frames that were read, so that each of them led to what the checks say.
 pub record ServesWithMemory (x : Setting) (h : History) (old : Session) (piece : List ℕ) (h2 : History) (new : Session) (replies : List Frame) : Type 0 where
   pub serves : ServesPiece x h old piece h2 new replies
   pub read : serves.answer ≢ Err Memory
   pub frames_are : record { history = h2; standing = serves.middle; replies = serves.reported } ≡ course_of x h old.standing serves.frames
 
--- what a piece does to a session where no memory is refused; a closed session takes bytes without any
+-- what a piece does to a session where no memory is refused; a closed session takes bytes without
+-- any
 abbrev pub FeedsWithMemory : Setting → History → Session → List ℕ → History → Session → List Frame → Type 0
 FeedsWithMemory x h old piece h2 new replies =
     MatchBool (is_closed old.standing) ((h2 ≡ h) × (new ≡ old) × (replies ≡ [])) (ServesWithMemory x h old piece h2 new replies)
 
--- Memory was refused while a piece was served to its end: a reply says so, or the reading was refused it after frames that had closed the session.
+-- Memory was refused while a piece was served to its end: a reply says so, or the reading was
+-- refused it after frames that had closed the session.
 abbrev pub WasShortOfMemory : Setting → Session → List ℕ → Session → List Frame → Type 0
 WasShortOfMemory x old piece new replies =
     (lacks_memory replies ≡ true)

@@ -39,7 +39,8 @@ setting_of s = record { plan = s.edition.plan; publisher = s.publisher }
 abbrev pub is_wide_setting : Setting → Bool
 is_wide_setting x = is_wide x.plan.form
 
--- how many bytes the entries of changed records may have in a reply: no more than fit into a frame, and an eighth of the hint's
+-- how many bytes the entries of changed records may have in a reply: no more than fit into a frame,
+-- and an eighth of the hint's
 abbrev pub most_changes : Setting → ℕ
 most_changes x = min 16777196 (most_old_bytes x.plan)
 
@@ -93,7 +94,8 @@ replies_with reply st h = record { reply = Some reply; standing = st; history = 
 abbrev pub refuses : Refusal → Standing → History → Outcome
 refuses why st h = replies_with (refused why) st h
 
--- a frame that names another version than the current one is answered with the current one and its record count
+-- a frame that names another version than the current one is answered with the current one and its
+-- record count
 abbrev pub stale : Standing → History → Outcome
 stale st h = replies_with (Stale (current_version h) (length h.current)) st h
 
@@ -114,8 +116,9 @@ abbrev pub is_publisher : Standing → Bool
 is_publisher Publisher = true
 is_publisher _ = false
 
--- A publication that a session of this standing asks for is made, unless memory is refused: the session is the publisher's, there is
--- something to publish, and a number is left for one more version.
+-- A publication that a session of this standing asks for is made, unless memory is refused: the
+-- session is the publisher's, there is something to publish, and a number is left for one more
+-- version.
 pub record MayPublish (standing : Standing) (store : StoreState) : Type 0 where
   pub publisher : is_publisher standing ≡ true
   pub marked : store.marked ≡ true
@@ -144,7 +147,8 @@ hint_asked x h st (Some scheme) version part =
 abbrev pub no_delta : Standing → History → Outcome
 no_delta st h = replies_with (NoDelta (current_version h) (length h.current)) st h
 
--- the rows that changed since a version are asked for, and these are they: at most 1024 of them are given, with the words of the current hint
+-- the rows that changed since a version are asked for, and these are they: at most 1024 of them are
+-- given, with the words of the current hint
 abbrev pub delta_asked : Setting → History → Standing → ℕ → Option (List ℕ) → Outcome
 delta_asked x h st since None = no_delta st h
 delta_asked x h st since (Some rows) =
@@ -152,7 +156,8 @@ delta_asked x h st since (Some rows) =
     then replies_with (Delta since (current_version h) (length h.current) (named_hint_rows x h.current rows)) st h
     else no_delta st h
 
--- the records that changed since a version are asked for, and these are the entries of what differs, if they can be given
+-- the records that changed since a version are asked for, and these are the entries of what
+-- differs, if they can be given
 abbrev pub changes_asked : Setting → History → Standing → ℕ → Option (List ℕ) → Outcome
 changes_asked x h st since None = no_delta st h
 changes_asked x h st since (Some entries) = replies_with (Changes since (current_version h) (length h.current) entries) st h
@@ -167,7 +172,8 @@ query_asked x h st (Some scheme) version words =
     else refuses refusal.BadQueryLength st h)
     else stale st h
 
--- What a frame leads to, in an open session: the first check that applies decides. Words of hints and answers are made from scratch.
+-- What a frame leads to, in an open session: the first check that applies decides. Words of hints
+-- and answers are made from scratch.
 abbrev pub outcome_of_frame : Setting → History → Standing → Frame → Outcome
 outcome_of_frame x h st (Hello profile key) =
     if accepts_profile x.plan profile then (
@@ -252,7 +258,7 @@ abbrev pub HasRoom : ℕ → Vec ℕ Global → Type 0
 HasRoom count out = vec_len out + count ≤ vec_capacity out
 
 -- no words yet, and room for so many rows of so many words, each after its number
-pub record IsRowRoom (count dimension : ℕ) (words : Vec ℕ Global) : Type 0 where
+pub record IsRowBuffers (count dimension : ℕ) (words : Vec ℕ Global) : Type 0 where
   pub empty : words.items ≡ []
   pub len : vec_len words ≡ 0
   pub room : count * (dimension + 1) ≤ vec_capacity words
@@ -261,11 +267,13 @@ pub record IsRowRoom (count dimension : ℕ) (words : Vec ℕ Global) : Type 0 w
 abbrev pub IsFull : Vec ℕ Global → Type 0
 IsFull out = vec_capacity out < vec_len out + 64
 
--- what a frame may lead to: what the checks say, or a refusal for memory where the last of them is memory
+-- what a frame may lead to: what the checks say, or a refusal for memory where the last of them is
+-- memory
 abbrev pub IsOutcome : Setting → History → Standing → Frame → Outcome → Type 0
 IsOutcome x h st f o = (o ≡ outcome_of_frame x h st f) ⊎ ((takes_memory x h st f ≡ true) × (o ≡ refuses refusal.Memory st h))
 
--- Frames are served one after another until the session is closed; then the others are dropped. The history and the standing after them, and the replies.
+-- Frames are served one after another until the session is closed; then the others are dropped. The
+-- history and the standing after them, and the replies.
 abbrev pub ServesAll : Setting → History → Standing → List Frame → History → Standing → List Frame → Type 0
 ServesAll x h st [] h2 st2 replies = (h2 ≡ h) × (st2 ≡ st) × (replies ≡ [])
 ServesAll x h st (f ∷ fs) h2 st2 replies =
@@ -283,7 +291,8 @@ abbrev pub reply_bytes : Option Frame → List ℕ
 reply_bytes None = []
 reply_bytes (Some reply) = encoding reply
 
--- A store that stands for an outcome's history in the setting, the outcome's standing, and what is written: before it, and with its reply at the end.
+-- A store that stands for an outcome's history in the setting, the outcome's standing, and what is
+-- written: before it, and with its reply at the end.
 pub record HasOutcome (x : Setting) (o : Outcome) (store : StoreState) (standing : Standing) (before after : List ℕ) : Type 0 where
   pub setting_is : setting_of store ≡ x
   pub store_is : StandsFor store o.history

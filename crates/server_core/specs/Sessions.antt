@@ -9,7 +9,7 @@ use Rattle.frame_codec.specs.Refusals.{refused}
 use Rattle.frame_codec.specs.declared.reader.ReadFault.{ReadFault}
 use Rattle.frame_codec.specs.declared.reader.ReadFault.TheVariants.{TooLong, UnknownKind, BadPayload, Memory, Failed}
 use Rattle.frame_codec.specs.Frames.{IsFrame, encoding}
-use Rattle.frame_codec.specs.declared.reader.Taken.{Taken}
+use Rattle.frame_codec.specs.declared.reader.FrameRead.{FrameRead}
 use Rattle.frame_codec.specs.Streams.{Feeds, FeedsFrame, HasPublishNext, HasQueryNext, SeesFrame}
 use Rattle.frame_codec.specs.declared.frame.Frame.TheVariants.{Query}
 use Rattle.frame_codec.specs.declared.ahead.QueryHead.{QueryHead}
@@ -21,7 +21,8 @@ use Rattle.server_core.specs.declared.session.Coming.{Coming}
 use Rattle.server_core.specs.declared.session.Coming.TheVariants.{Short, LongAnswer, Publication}
 use Rattle.server_core.specs.Serving.{Setting, is_wide_setting, setting_of, ServesAll, ServedAll, MayPublish, is_closed, is_welcome, words_asked}
 
--- who the session speaks for, and the bytes of its unfinished frame, which are None once its stream has failed
+-- who the session speaks for, and the bytes of its unfinished frame, which are None once its stream
+-- has failed
 pub record Session : Type 0 where
   pub standing : Standing
   pub unfinished : Option (List ℕ)
@@ -34,7 +35,8 @@ new_session = record { standing = Stranger; unfinished = Some [] }
 abbrev pub IsLive : Standing → Option (List ℕ) → Type 0
 IsLive standing unfinished = is_closed standing ≡ false → unfinished ≢ None
 
--- what the end of a piece does to a session that its frames leave open, and the replies to it: a fault is refused, and closes it
+-- what the end of a piece does to a session that its frames leave open, and the replies to it: a
+-- fault is refused, and closes it
 abbrev pub AfterReading : Result (Unit {0}) ReadFault → Standing → Standing → List Frame → Type 0
 AfterReading (Ok done) middle after more = (after ≡ middle) × (more ≡ [])
 AfterReading (Err TooLong) middle after more = (after ≡ Closed) × (more ≡ refused refusal.BadFrame ∷ [])
@@ -47,11 +49,13 @@ AfterReading (Err Failed) middle after more = ⊥
 abbrev pub EndsPiece : Result (Unit {0}) ReadFault → Standing → Standing → List Frame → Type 0
 EndsPiece answer middle after more = MatchBool (is_closed middle) ((after ≡ middle) × (more ≡ [])) (AfterReading answer middle after more)
 
--- Where memory was refused: before one of the frames, or after them, where the reading stopped with a fault.
+-- Where memory was refused: before one of the frames, or after them, where the reading stopped with
+-- a fault.
 abbrev pub IsStop : Result (Unit {0}) ReadFault → List Frame → ℕ → Type 0
 IsStop answer frames count = (count < length frames) ⊎ ((count ≡ length frames) × IsErr answer)
 
--- the reading stopped without a fault that could be reported: memory was refused to it, or it had stopped before
+-- the reading stopped without a fault that could be reported: memory was refused to it, or it had
+-- stopped before
 abbrev pub IsUnjudged : Result (Unit {0}) ReadFault → Type 0
 IsUnjudged (Ok done) = ⊥
 IsUnjudged (Err TooLong) = ⊥
@@ -84,13 +88,15 @@ pub record ClosesForMemory (x : Setting) (h : History) (old : Session) (piece : 
   pub goes_on : is_closed middle ≡ false
   pub shut : new.standing ≡ Closed
 
--- What a piece does to a session, and the history after it and the replies. A closed session takes bytes and replies nothing. At an error memory was refused.
+-- What a piece does to a session, and the history after it and the replies. A closed session takes
+-- bytes and replies nothing. At an error memory was refused.
 abbrev pub FeedsSession : Setting → History → Session → List ℕ → Result (Unit {0}) AllocError → History → Session → List Frame → Type 0
 FeedsSession x h old piece (Ok done) h2 new replies =
     MatchBool (is_closed old.standing) ((h2 ≡ h) × (new ≡ old) × (replies ≡ [])) (ServesPiece x h old piece h2 new replies)
 FeedsSession x h old piece (Err e) h2 new replies = (is_closed old.standing ≡ false) × ClosesForMemory x h old piece h2 new replies
 
--- A store was fed a session's piece: it stands for the history after it in the same setting, and the replies are written.
+-- A store was fed a session's piece: it stands for the history after it in the same setting, and
+-- the replies are written.
 pub record Fed (x : Setting) (h : History) (old : Session) (piece : List ℕ) (result : Result (Unit {0}) AllocError) (store : StoreState) (new : Session)
     (before after : List ℕ) : Type 0 where
   pub history : History
@@ -101,7 +107,8 @@ pub record Fed (x : Setting) (h : History) (old : Session) (piece : List ℕ) (r
   pub written : after ≡ before ++ flat_map encoding replies
   pub each : AllByRecursion IsFrame replies
 
--- Memory was refused to the reading of a piece, and to nothing else: all frames that were read before it are served, and `after` has their replies.
+-- Memory was refused to the reading of a piece, and to nothing else: all frames that were read
+-- before it are served, and `after` has their replies.
 pub record IsUnread (x : Setting) (h : History) (old : Session) (piece : List ℕ) (store : StoreState) (new : Session) (before after : List ℕ) : Type 0 where
   pub refusal : AllocError
   pub fed : Fed x h old piece (Err refusal) store new before after
@@ -144,27 +151,29 @@ pub record ServedOpen (x : Setting) (h : History) (st : Standing) (frames : List
 -- ---- one frame of a piece
 
 -- the frame that a reader completed, if it completed one
-abbrev pub frames_taken : Result Taken ReadFault → List Frame
+abbrev pub frames_taken : Result FrameRead ReadFault → List Frame
 frames_taken (Ok taken) = option_to_list taken.frame
 frames_taken (Err fault) = []
 
 -- how many bytes of a piece are used up: those that the reader took, or, after a fault, all
-abbrev pub bytes_used : List ℕ → Result Taken ReadFault → ℕ
+abbrev pub bytes_used : List ℕ → Result FrameRead ReadFault → ℕ
 bytes_used piece (Ok taken) = taken.count
 bytes_used piece (Err fault) = length piece
 
 -- how the reading ended
-abbrev pub reading_end : Result Taken ReadFault → Result (Unit {0}) ReadFault
+abbrev pub reading_end : Result FrameRead ReadFault → Result (Unit {0}) ReadFault
 reading_end (Ok taken) = Ok tt
 reading_end (Err fault) = Err fault
 
--- The next frame of a session's stream, which a piece completes, is a publication that is made unless memory is refused.
+-- The next frame of a session's stream, which a piece completes, is a publication that is made
+-- unless memory is refused.
 pub record WouldPublish (s : Session) (piece : List ℕ) (store : StoreState) : Type 0 where
   pub next : HasPublishNext s.unfinished piece
   pub may : MayPublish s.standing store
 
--- The next frame of a session's stream, which a piece completes, is a query that is answered unless memory is refused: the session is welcome,
--- there is this scheme, and its version and the count of its words are those of the store.
+-- The next frame of a session's stream, which a piece completes, is a query that is answered unless
+-- memory is refused: the session is welcome, there is this scheme, and its version and the count of
+-- its words are those of the store.
 pub record WouldAnswer (s : Session) (piece : List ℕ) (store : StoreState) (scheme : Scheme) : Type 0 where
   pub head : QueryHead
   pub next : HasQueryNext s.unfinished piece head
@@ -183,9 +192,10 @@ IsComing Short s piece store = WouldPublish s piece store → ⊥
 IsComing (LongAnswer scheme) s piece store = WouldAnswer s piece store scheme
 IsComing Publication s piece store = WouldPublish s piece store
 
--- The first frame that a piece completes is served, or a fault in its place is reported: so many bytes of the piece are used up.
+-- The first frame that a piece completes is served, or a fault in its place is reported: so many
+-- bytes of the piece are used up.
 pub record ServesFrame (x : Setting) (h : History) (old : Session) (piece : List ℕ) (count : ℕ) (h2 : History) (new : Session) (replies : List Frame) : Type 0 where
-  pub answer : Result Taken ReadFault
+  pub answer : Result FrameRead ReadFault
   pub middle : Standing
   pub reported : List Frame
   pub more : List Frame
@@ -196,13 +206,13 @@ pub record ServesFrame (x : Setting) (h : History) (old : Session) (piece : List
   pub all : replies ≡ reported ++ more
 
 -- there was a frame to be served, or a fault to be reported
-abbrev pub HasTaken : Result Taken ReadFault → Type 0
+abbrev pub HasTaken : Result FrameRead ReadFault → Type 0
 HasTaken (Ok taken) = IsSome taken.frame
 HasTaken (Err fault) = Unit {0}
 
 -- memory for that was refused: nothing was served, and the session is closed
 pub record ClosesBeforeFrame (x : Setting) (h : History) (old : Session) (piece : List ℕ) (h2 : History) (new : Session) (replies : List Frame) : Type 0 where
-  pub answer : Result Taken ReadFault
+  pub answer : Result FrameRead ReadFault
   pub reads : FeedsFrame (is_wide_setting x) old.unfinished piece answer new.unfinished
   pub stop : HasTaken answer
   pub same : h2 ≡ h
@@ -213,14 +223,16 @@ pub record ClosesBeforeFrame (x : Setting) (h : History) (old : Session) (piece 
 abbrev pub IsFirstUnread : Setting → Option (List ℕ) → List ℕ → Option (List ℕ) → Type 0
 IsFirstUnread x old piece new = FeedsFrame (is_wide_setting x) old piece (Err Memory) new
 
--- What the first frame of a piece does to a session, as `FeedsSession` of a whole piece. A closed session takes all of it.
+-- What the first frame of a piece does to a session, as `FeedsSession` of a whole piece. A closed
+-- session takes all of it.
 abbrev pub FeedsFirst : Setting → History → Session → List ℕ → Result ℕ AllocError → History → Session → List Frame → Type 0
 FeedsFirst x h old piece (Ok count) h2 new replies =
     MatchBool (is_closed old.standing) ((count ≡ length piece) × (h2 ≡ h) × (new ≡ old) × (replies ≡ []))
     (ServesFrame x h old piece count h2 new replies)
 FeedsFirst x h old piece (Err e) h2 new replies = (is_closed old.standing ≡ false) × ClosesBeforeFrame x h old piece h2 new replies
 
--- A store was fed the first frame of a session's piece: it stands for the history after it in the same setting, and the reply is written.
+-- A store was fed the first frame of a session's piece: it stands for the history after it in the
+-- same setting, and the reply is written.
 pub record FedFirst (x : Setting) (h : History) (old : Session) (piece : List ℕ) (result : Result ℕ AllocError) (store : StoreState) (new : Session)
     (before after : List ℕ) : Type 0 where
   pub history : History

@@ -1,10 +1,10 @@
 //! A server of sessions over one store.
 //!
-//! A session's stream comes in pieces of any size. Each frame is served when its last byte is fed, against
-//! the version that is current then. What a session gets depends on its own stream and on the versions
-//! alone, never on another session.
+//! A session's stream comes in pieces of any size. Each frame is served when its last byte is fed,
+//! against the version that is current then. What a session gets depends on its own stream and on
+//! the versions alone, never on another session.
 //!
-//! Its tests are in `session_tests::server` and `tests/long/session_tests`.
+//! Its tests are in `tests_session::server` and `tests/long/tests_session`.
 #![tactic(auto)]
 
 pub mod laws;

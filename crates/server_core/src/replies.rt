@@ -1,27 +1,33 @@
 //! Replies, written after those before.
 
-ghost use Rattle.std.specs.Prelude.{All, ◌≡◌, ◌≤◌, ◌<◌, ◌+◌, ◌*◌, ◌∷◌, ◌++◌, length, vec_len, vec_capacity, OnOk, OnErr, IfOk, IfSome, IfNone, true, false};
+ghost use Rattle.std.specs.Prelude.{All, ◌≡◌, ◌≤◌, ◌<◌, ◌+◌, ◌*◌, ◌∷◌, ◌++◌, length, vec_len};
+ghost use Rattle.std.specs.Prelude.{vec_capacity, OnOk, OnErr, IfOk, IfSome, IfNone, true, false};
 ghost use Rattle.frame_codec.specs.Frames.{IsFrame, encoding, payload_size};
-ghost use Rattle.frame_codec.specs.declared.frame.Frame.TheVariants.{Answer, Changes, Delta, Done, HintPart, NoDelta, Stale, Welcome};
+ghost use Rattle.frame_codec.specs.declared.frame.Frame.TheVariants.{Answer, Changes, Delta, Done};
+ghost use Rattle.frame_codec.specs.declared.frame.Frame.TheVariants.{HintPart, NoDelta, Stale};
+ghost use Rattle.frame_codec.specs.declared.frame.Frame.TheVariants.{Welcome};
 ghost use Rattle.frame_codec.specs.Refusals.{refused};
 ghost use Rattle.pir_schemes.specs.Schemes.{scheme_byte};
 ghost use Rattle.pir_schemes.specs.Plans.{profile_of};
 ghost use Rattle.pir_schemes.specs.Retrievals.{answer_words};
 ghost use Rattle.digit_pack.specs.Layout.{digit_rows};
 ghost use Rattle.version_store.specs.Editions.{version_shape};
-ghost use Rattle.server_core.specs.Serving.{setting_of, has_part, most_changes, part_words, named_hint_rows, words_asked, words_answered, hint_row, HasRoom, IsRowRoom};
-ghost use Rattle.version_store.specs.Rooms.{scheme_answered, IsAnswerRoom};
+ghost use Rattle.server_core.specs.Serving.{setting_of, has_part, most_changes, part_words};
+ghost use Rattle.server_core.specs.Serving.{named_hint_rows, words_asked, words_answered, hint_row};
+ghost use Rattle.server_core.specs.Serving.{HasRoom, IsRowBuffers};
+ghost use Rattle.version_store.specs.Buffers.{scheme_answered, IsAnswerBuffers};
 
 use frame_codec::{Bytes, Bytes32, Frame, Refusal, Rows, Words, write_frame, write_hint_part};
 use matrix_u32::Kernel;
 use pir_schemes::{Scheme, answer_count};
 use std::alloc::{AllocError, Global};
-use version_store::{AnswerRoom, Store};
+use version_store::{AnswerBuffers, Store};
 
 /// The room that every reply but a hint's part, a delta and an answer fits into.
 pub const SHORT_REPLY: usize = 64;
 
-// How many bytes the entries of changed records may have, so that their frame has a payload that is short enough.
+// How many bytes the entries of changed records may have, so that their frame has a payload that is
+// short enough.
 const MOST_ENTRIES: usize = 16_777_196;
 
 // How many bytes the frame of an answer has before its words.
@@ -112,8 +118,9 @@ pub fn part_of_hint<K: Kernel>(store: &Store<K>, scheme: Scheme, part: u32) -> O
     store.hint_words(scheme, part as usize)
 }
 
-/// Adds a part of a scheme's hint. Only where its room is missing, and more is refused, comes an `Err`, and then
-/// nothing was added. The words are encoded where they stand: no copy of them is made.
+/// Adds a part of a scheme's hint. Only where its room is missing, and more is refused, comes an
+/// `Err`, and then nothing was added. The words are encoded where they stand: no copy of them is
+/// made.
 pub fn put_part(
     scheme: Scheme,
     version: u64,
@@ -147,7 +154,8 @@ pub fn put_no_delta<K: Kernel>(store: &Store<K>, out: &mut Vec<u8>)
     put(&reply, out);
 }
 
-/// How many bytes the entries of changed records may have in a reply: no more than fit into a frame, and an eighth of the hint's.
+/// How many bytes the entries of changed records may have in a reply: no more than fit into a
+/// frame, and an eighth of the hint's.
 pub fn most_changes<K: Kernel>(store: &Store<K>) -> usize
     ensures value { result ≡ most_changes (setting_of store.now) }
     ensures short { result ≤ 16777196 }
@@ -156,8 +164,9 @@ pub fn most_changes<K: Kernel>(store: &Store<K>) -> usize
     (hint / 2).min(MOST_ENTRIES)
 }
 
-/// Adds the records that changed since a version, as entries. Only where its room is missing, and more is refused, comes an `Err`, and
-/// then nothing was added. The entries are moved into the reply.
+/// Adds the records that changed since a version, as entries. Only where its room is missing, and
+/// more is refused, comes an `Err`, and then nothing was added. The entries are moved into the
+/// reply.
 pub fn put_changes<K: Kernel>(
     store: &Store<K>,
     since: u64,
@@ -181,8 +190,9 @@ pub fn put_changes<K: Kernel>(
     write_frame(&reply, out)
 }
 
-/// Memory for the words of so many rows of the current SimplePIR hint, each after its number, and room in `out` for
-/// their frame. It is not given which rows, so an `Err` depends on none; what `out` holds stays.
+/// Memory for the words of so many rows of the current SimplePIR hint, each after its number, and
+/// room in `out` for their frame. It is not given which rows, so an `Err` depends on none; what
+/// `out` holds stays.
 pub fn room_for_rows<K: Kernel>(
     alloc: Global,
     store: &Store<K>,
@@ -190,7 +200,7 @@ pub fn room_for_rows<K: Kernel>(
     out: &mut Vec<u8>,
 ) -> Result<Vec<u32>, AllocError>
     requires { count ≤ 1024 }
-    ensures words { IfOk result (IsRowRoom count store.now.edition.plan.dimension) }
+    ensures words { IfOk result (IsRowBuffers count store.now.edition.plan.dimension) }
     ensures space { OnOk result (HasRoom
         (27 + 4 * (count * (store.now.edition.plan.dimension + 1))) out.new) }
     ensures items { out.new.items ≡ out.old.items }
@@ -201,8 +211,8 @@ pub fn room_for_rows<K: Kernel>(
     Vec::with_capacity(alloc, words)
 }
 
-/// Adds rows of the current SimplePIR hint, in the order in which they are named, for which there is room. It takes
-/// no memory.
+/// Adds rows of the current SimplePIR hint, in the order in which they are named, for which there
+/// is room. It takes no memory.
 ///
 /// Each row is copied once, and its bytes are written once.
 #[tactic(auto, using(crate::proofs::Deltas::count_of_words))]
@@ -215,7 +225,7 @@ pub fn put_delta<K: Kernel>(
 )
     requires few { length rows.now ≤ 1024 }
     requires inside { All (λ r. r < digit_rows (version_shape store.now.edition)) rows.now }
-    requires room { IsRowRoom (length rows.now) store.now.edition.plan.dimension room }
+    requires room { IsRowBuffers (length rows.now) store.now.edition.plan.dimension room }
     requires space { HasRoom
         (27 + 4 * (length rows.now * (store.now.edition.plan.dimension + 1))) out.old }
     ensures items { out.new.items ≡ out.old.items ++ encoding
@@ -239,7 +249,7 @@ pub fn put_delta<K: Kernel>(
 fn rows_of_hint<K: Kernel>(store: &Store<K>, rows: &[u32], mut words: Vec<u32>) -> Rows
     requires few { length rows.now ≤ 1024 }
     requires inside { All (λ r. r < digit_rows (version_shape store.now.edition)) rows.now }
-    requires room { IsRowRoom (length rows.now) store.now.edition.plan.dimension words }
+    requires room { IsRowBuffers (length rows.now) store.now.edition.plan.dimension words }
     ensures rows { result ≡
         named_hint_rows (setting_of store.now) store.now.edition.records rows.now }
     ensures few { length result.words ≤ 1049600 }
@@ -266,16 +276,16 @@ fn put_row<K: Kernel>(store: &Store<K>, row: u32, words: &mut Vec<u32>)
     let _ = words.extend_from_slice(store.hint_row(row as usize));
 }
 
-/// Memory for the answer to a query of a scheme, and room in `out` for its frame. No word of the query is given, so
-/// an `Err` depends on none; what `out` holds stays.
+/// Memory for the answer to a query of a scheme, and room in `out` for its frame. No word of the
+/// query is given, so an `Err` depends on none; what `out` holds stays.
 #[tactic(auto, using(crate::proofs::AnswerSizes::few_words))]
 pub fn room_for_answer<K: Kernel>(
     store: &Store<K>,
     scheme: Scheme,
     out: &mut Vec<u8>,
-) -> Result<AnswerRoom, AllocError>
+) -> Result<AnswerBuffers, AllocError>
     ensures scheme { IfOk result (λ room. scheme_answered room ≡ scheme) }
-    ensures sizes { IfOk result (λ room. IsAnswerRoom (version_shape store.now.edition)
+    ensures sizes { IfOk result (λ room. IsAnswerBuffers (version_shape store.now.edition)
         store.now.edition.plan.dimension room) }
     ensures space { OnOk result (HasRoom
         (14 + 4 * words_answered (setting_of store.now) scheme store.now.edition.records) out.new) }
@@ -283,7 +293,7 @@ pub fn room_for_answer<K: Kernel>(
     ensures room { vec_capacity out.old ≤ vec_capacity out.new }
 {
     room_for_answer_frame(store, scheme, out)?;
-    store.answer_room(scheme)
+    store.answer_buffers(scheme)
 }
 
 /// Room in `out` for the frame of the answer to a query of a scheme. What `out` holds stays.
@@ -308,14 +318,14 @@ pub fn room_for_answer_frame<K: Kernel>(
 pub fn put_answer<K: Kernel>(
     store: &Store<K>,
     scheme: Scheme,
-    room: AnswerRoom,
+    room: AnswerBuffers,
     words: &Words,
     out: &mut Vec<u8>,
 )
     requires words { length words.now ≡
         words_asked (setting_of store.now) scheme store.now.edition.records }
     requires scheme { scheme_answered room ≡ scheme }
-    requires sizes { IsAnswerRoom (version_shape store.now.edition)
+    requires sizes { IsAnswerBuffers (version_shape store.now.edition)
         store.now.edition.plan.dimension room }
     requires space { HasRoom
         (14 + 4 * words_answered (setting_of store.now) scheme store.now.edition.records) out.old }

@@ -1,13 +1,19 @@
 //! Frames, served one after another.
 
-ghost use Rattle.std.specs.Prelude.{◌≡◌, ◌≤◌, ◌+◌, ◌++◌, length, vec_len, vec_capacity, OnOk, OnErr, IfOk};
+ghost use Rattle.std.specs.Prelude.{◌≡◌, ◌≤◌, ◌+◌, ◌++◌, length, vec_len, vec_capacity, OnOk};
+ghost use Rattle.std.specs.Prelude.{OnErr, IfOk};
 ghost use Rattle.frame_codec.specs.Frames.{IsFrame, encoding};
-ghost use Rattle.frame_codec.specs.declared.frame.Frame.TheVariants.{Answer, Append, ChangesAsk, DeltaAsk, Edit, Hello, HintAsk, Publish, Query};
+ghost use Rattle.frame_codec.specs.declared.frame.Frame.TheVariants.{Answer, Append, ChangesAsk};
+ghost use Rattle.frame_codec.specs.declared.frame.Frame.TheVariants.{DeltaAsk, Edit, Hello};
+ghost use Rattle.frame_codec.specs.declared.frame.Frame.TheVariants.{HintAsk, Publish, Query};
 ghost use Rattle.frame_codec.specs.Refusals.{refused};
 ghost use Rattle.pir_schemes.specs.Schemes.{scheme_byte};
 ghost use Rattle.pir_schemes.specs.Retrievals.{answer_words};
 ghost use Rattle.version_store.specs.Histories.{History, StandsFor};
-ghost use Rattle.server_core.specs.Serving.{setting_of, is_wide_setting, is_publisher_key, is_reader_key, outcome_of_frame, words_asked, HasRoom, HasOutcome, Serves, ServedAll, BrokenOff, IsFull, MayPublish, PublishesIf};
+ghost use Rattle.server_core.specs.Serving.{setting_of, is_wide_setting, is_publisher_key};
+ghost use Rattle.server_core.specs.Serving.{is_reader_key, outcome_of_frame, words_asked, HasRoom};
+ghost use Rattle.server_core.specs.Serving.{HasOutcome, Serves, ServedAll, BrokenOff, IsFull};
+ghost use Rattle.server_core.specs.Serving.{MayPublish, PublishesIf};
 
 use crate::replies::{
     SHORT_REPLY, most_changes, part_of_hint, put_answer, put_changes, put_delta, put_done,
@@ -66,8 +72,8 @@ fn serve_hello<K: Kernel>(
     standing
 }
 
-/// Gives a part of the hint. Where there is room for the longest part, no memory is asked for, and none is said to be
-/// refused.
+/// Gives a part of the hint. Where there is room for the longest part, no memory is asked for, and
+/// none is said to be refused.
 fn serve_hint_ask<K: Kernel>(
     store: &Store<K>,
     standing: Standing,
@@ -142,8 +148,8 @@ pub fn has_wide_frames<K: Kernel>(store: &Store<K>) -> bool
     is_wide(store.plan().form)
 }
 
-/// Gives the records that have changed since a version, if the database is wide; no other stream has this frame. Answers the standing
-/// after it.
+/// Gives the records that have changed since a version, if the database is wide; no other stream
+/// has this frame. Answers the standing after it.
 fn serve_changes_ask<K: Kernel>(
     store: &Store<K>,
     standing: Standing,
@@ -212,8 +218,9 @@ fn serve_query<K: Kernel>(
     }
 }
 
-/// Adds the answer to a query of as many words as one has: the one that was made in steps, if it is this query's, else it is
-/// made here. Only refused memory gives an `Err`, and then nothing was added.
+/// Adds the answer to a query of as many words as one has: the one that was made in steps, if it is
+/// this query's, else it is made here. Only refused memory gives an `Err`, and then nothing was
+/// added.
 #[tactic(auto, using(crate::proofs::AnswerSizes::size_of_answer))]
 fn answer_query<K: Kernel>(
     store: &mut Store<K>,
@@ -392,8 +399,8 @@ fn serve_with_room<K: Kernel>(
     }
 }
 
-/// Serves a frame, and answers the standing after it. An `Err` comes only from the 64 bytes for the reply, and
-/// then the frame isn't served.
+/// Serves a frame, and answers the standing after it. An `Err` comes only from the 64 bytes for the
+/// reply, and then the frame isn't served.
 pub fn serve_frame<K: Kernel>(
     alloc: Global,
     store: &mut Store<K>,
@@ -413,8 +420,8 @@ pub fn serve_frame<K: Kernel>(
     Ok(serve_with_room(alloc, store, standing, frame, out))
 }
 
-/// Serves frames until the session is closed, and answers the standing after them. At an `Err` memory was
-/// refused before a frame, which isn't served.
+/// Serves frames until the session is closed, and answers the standing after them. At an `Err`
+/// memory was refused before a frame, which isn't served.
 pub fn serve_frames<K: Kernel>(
     alloc: Global,
     store: &mut Store<K>,

@@ -1,10 +1,16 @@
 //! Sessions over one store.
 
-ghost use Rattle.std.specs.Prelude.{◌≡◌, ◌≢◌, ◌⊎◌, ◌≤◌, ◌<◌, ◌^◌, ◌+◌, ◌↔◌, ℕ, length, IsTrue, OnOk, OnErr, IfOk, IsSome, Some, None, IsErrOf, is_some, slice_set, true, false};
+ghost use Rattle.std.specs.Prelude.{◌≡◌, ◌≢◌, ◌⊎◌, ◌≤◌, ◌<◌, ◌^◌, ◌+◌, ◌↔◌, ℕ, length, IsTrue};
+ghost use Rattle.std.specs.Prelude.{OnOk, OnErr, IfOk, IsSome, Some, None, IsErrOf, is_some};
+ghost use Rattle.std.specs.Prelude.{slice_set, true, false};
 ghost use Rattle.digit_pack.specs.Layout.{is_layout};
 ghost use Rattle.pir_schemes.specs.Plans.{fits, shape_at};
-ghost use Rattle.version_store.specs.Histories.{History, StandsFor, after_edit, after_append, published, undrafted, held_appended, held_published, without_draft};
-ghost use Rattle.server_core.specs.Cores.{session_of, is_open, IsComingIn, MayWait, PublishesNext, FeedsCore, FeedsCoreFirst, IsFirstUnreadBy, OnMemory, OnNoSession, unfinished_in};
+ghost use Rattle.version_store.specs.Histories.{History, StandsFor, after_edit, after_append};
+ghost use Rattle.version_store.specs.Histories.{published, undrafted, held_appended};
+ghost use Rattle.version_store.specs.Histories.{held_published, without_draft};
+ghost use Rattle.server_core.specs.Cores.{session_of, is_open, IsComingIn, MayWait, PublishesNext};
+ghost use Rattle.server_core.specs.Cores.{FeedsCore, FeedsCoreFirst, IsFirstUnreadBy, OnMemory};
+ghost use Rattle.server_core.specs.Cores.{OnNoSession, unfinished_in};
 ghost use Rattle.server_core.specs.Serving.{setting_of, IsFull, PublishesIf};
 ghost use Rattle.server_core.specs.Sessions as sessions;
 
@@ -42,8 +48,8 @@ pub enum FeedError {
 
 /// A store and the sessions of those that ask it, by their numbers.
 ///
-/// Contracts see it as what the store keeps and the list of the sessions. They say what a call does to every
-/// history that the store stands for.
+/// Contracts see it as what the store keeps and the list of the sessions. They say what a call does
+/// to every history that the store stands for.
 #[derive(Drop)]
 pub struct ServerCore<K: Kernel> {
     alloc: Global,
@@ -80,8 +86,8 @@ impl<K: Kernel> ServerCore<K> {
 
     /// Opens a session: its stream is empty so far, and no greeting was accepted.
     ///
-    /// `IdInUse` exactly when there is one of this number, also a closed one; else it is opened, or `Memory`.
-    /// A refused opening changes nothing.
+    /// `IdInUse` exactly when there is one of this number, also a closed one; else it is opened, or
+    /// `Memory`. A refused opening changes nothing.
     pub fn open_session(&mut self, id: u64) -> Result<(), SessionError>
         ensures opened { OnOk result (session_of self.new.sessions id ≡ Some sessions.new_session) }
         ensures in_use { IsErrOf result SessionError.IdInUse ↔ IsSome
@@ -130,7 +136,8 @@ impl<K: Kernel> ServerCore<K> {
         }
     }
 
-    /// How many bytes of an unfinished frame the session of this number keeps, and 0 where there is none.
+    /// How many bytes of an unfinished frame the session of this number keeps, and 0 where there is
+    /// none.
     pub fn unfinished_len(&self, id: u64) -> usize
         ensures { result ≡ unfinished_in (session_of self.now.sessions id) }
     {
@@ -140,10 +147,11 @@ impl<K: Kernel> ServerCore<K> {
         }
     }
 
-    /// Whether a piece of the stream of this number's session makes its next frame a publication that is made unless
-    /// memory is refused: the session is open and the publisher's, the bytes that it keeps and then the piece begin with
-    /// the frame Publish, there is something to publish, and a number is left for one more version. So feeding the piece
-    /// publishes nothing where this is false. It takes no memory.
+    /// Whether a piece of the stream of this number's session makes its next frame a publication
+    /// that is made unless memory is refused: the session is open and the publisher's, the bytes
+    /// that it keeps and then the piece begin with the frame Publish, there is something to
+    /// publish, and a number is left for one more version. So feeding the piece publishes nothing
+    /// where this is false. It takes no memory.
     pub fn publishes_next(&self, id: u64, piece: &[u8]) -> bool
         ensures { IsTrue result ↔ PublishesNext self.now id piece.now }
     {
@@ -153,17 +161,20 @@ impl<K: Kernel> ServerCore<K> {
         }
     }
 
-    /// Whether a piece of the stream of this number's session may be fed now, as far as long answers are concerned. One that is
-    /// made in steps is begun and made here, one step a call, and the feed that follows gives it.
+    /// Whether a piece of the stream of this number's session may be fed now, as far as long
+    /// answers are concerned. One that is made in steps is begun and made here, one step a call,
+    /// and the feed that follows gives it.
     ///
-    /// While this answers false the same piece is to come here again, after the other sessions have had their turns. A piece may not be fed
+    /// While this answers false the same piece is to come here again, after the other sessions have
+    /// had their turns. A piece may not be fed
     ///
-    /// - when its next frame is a query whose answer lacks a step, is not begun while another session's is, or would be
-    ///   begun while a publication waits;
-    /// - when its next frame publishes, and another session's answer is begun, which the publication would give up.
+    /// - when its next frame is a query whose answer lacks a step, is not begun while another
+    ///   session's is, or would be begun while a publication waits;
+    /// - when its next frame publishes, and another session's answer is begun, which the
+    ///   publication would give up.
     ///
-    /// All other pieces may be fed. Contracts see no more of this: fed at once each piece is answered the same, only that the
-    /// whole answer is made in the feed.
+    /// All other pieces may be fed. Contracts see no more of this: fed at once each piece is
+    /// answered the same, only that the whole answer is made in the feed.
     pub fn prepare(&mut self, id: u64, piece: &[u8]) -> bool
         ensures same { self.new ≡ self.old }
         ensures only { result ≡ false → MayWait self.old id piece.now }
@@ -196,7 +207,8 @@ impl<K: Kernel> ServerCore<K> {
         }
     }
 
-    /// Whether a session may publish now. If it may not it is remembered, so that no more answers are begun before.
+    /// Whether a session may publish now. If it may not it is remembered, so that no more answers
+    /// are begun before.
     fn prepare_publication(&mut self, id: u64) -> bool
         ensures { self.new ≡ self.old }
     {
@@ -208,7 +220,8 @@ impl<K: Kernel> ServerCore<K> {
         true
     }
 
-    /// Makes a step of the answer to a session's next query, and answers whether this may be fed now.
+    /// Makes a step of the answer to a session's next query, and answers whether this may be fed
+    /// now.
     fn prepare_answer(&mut self, id: u64, piece: &[u8], scheme: Scheme) -> bool
         ensures { self.new ≡ self.old }
     {
@@ -257,7 +270,8 @@ impl<K: Kernel> ServerCore<K> {
         is_made
     }
 
-    /// Gives up the answer of a session that is closed, and waits no more for such a one's publication.
+    /// Gives up the answer of a session that is closed, and waits no more for such a one's
+    /// publication.
     fn forget_closed(&mut self)
         ensures { self.new ≡ self.old }
     {
@@ -345,8 +359,8 @@ impl<K: Kernel> ServerCore<K> {
         self.store.drop_draft();
     }
 
-    /// Makes the draft the current version and answers its number, as [`Store::publish`] does. No session
-    /// changes.
+    /// Makes the draft the current version and answers its number, as [`Store::publish`] does. No
+    /// session changes.
     pub fn publish(&mut self) -> Result<u64, PublishError>
         ensures version { IfOk result (λ v. (v ≡ self.old.store.version + 1) × (v < 2 ^ 64)) }
         ensures done { OnOk result (self.new.store ≡ held_published self.old.store) }
@@ -362,12 +376,14 @@ impl<K: Kernel> ServerCore<K> {
         self.store.publish()
     }
 
-    /// Takes the next piece of a session's stream, and adds to `out` the replies to the frames that are whole
-    /// now, each served against the version that is current then.
+    /// Takes the next piece of a session's stream, and adds to `out` the replies to the frames that
+    /// are whole now, each served against the version that is current then.
     ///
-    /// `NoSession` exactly when there is no session of this number: nothing changes. At `Memory` the session
-    /// is closed and `out` has gained the whole replies to the frames before the one at hand, which isn't
-    /// served: there was no room in `out` for a reply, or the reading was refused memory after just these frames. A closed session takes bytes and replies nothing. No other session changes.
+    /// `NoSession` exactly when there is no session of this number: nothing changes. At `Memory`
+    /// the session is closed and `out` has gained the whole replies to the frames before the one at
+    /// hand, which isn't served: there was no room in `out` for a reply, or the reading was refused
+    /// memory after just these frames. A closed session takes bytes and replies nothing. No other
+    /// session changes.
     pub fn feed(&mut self, id: u64, piece: &[u8], out: &mut Vec<u8>) -> Result<(), FeedError>
         ensures fed { (h : History) → StandsFor self.old.store h → (old : sessions.Session) →
             session_of self.old.sessions id ≡ Some old →
@@ -398,12 +414,14 @@ impl<K: Kernel> ServerCore<K> {
         Ok(())
     }
 
-    /// Takes the next piece of a session's stream up to the end of the first frame that is whole then, adds to `out`
-    /// the reply to it, and answers how many bytes it took: what [`ServerCore::feed`] of just these bytes does. Where no
-    /// frame is whole it takes all, and where a fault stands in the frame's place.
+    /// Takes the next piece of a session's stream up to the end of the first frame that is whole
+    /// then, adds to `out` the reply to it, and answers how many bytes it took: what
+    /// [`ServerCore::feed`] of just these bytes does. Where no frame is whole it takes all, and
+    /// where a fault stands in the frame's place.
     ///
-    /// `NoSession` exactly when there is no session of this number: nothing changes. At `Memory` the session
-    /// is closed, and nothing was served. A closed session takes all and replies nothing. No other session changes.
+    /// `NoSession` exactly when there is no session of this number: nothing changes. At `Memory`
+    /// the session is closed, and nothing was served. A closed session takes all and replies
+    /// nothing. No other session changes.
     pub fn feed_frame(
         &mut self,
         id: u64,
@@ -422,7 +440,8 @@ impl<K: Kernel> ServerCore<K> {
         ensures no_session { IsErrOf result FeedError.NoSession ↔
             (session_of self.old.sessions id ≡ None) }
         ensures full { IsErrOf result FeedError.Memory → IsFull out.new ⊎ IsFirstUnreadBy
-            (setting_of self.old.store) (session_of self.old.sessions id) piece.now (session_of self.new.sessions id) }
+            (setting_of self.old.store) (session_of self.old.sessions id) piece.now
+            (session_of self.new.sessions id) }
         ensures unchanged { OnNoSession result ((self.new ≡ self.old) ×
             (out.new.items ≡ out.old.items)) }
         ensures version { PublishesIf (PublishesNext self.old id piece.now) self.old.store.version

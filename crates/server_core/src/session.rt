@@ -1,18 +1,23 @@
 //! One session.
 
-ghost use Rattle.std.specs.Prelude.{◌≡◌, ◌≤◌, ◌<◌, ◌⊎◌, ◌↔◌, ◌++◌, length, ℕ, List, [], ◌∷◌, IsTrue, IfOk, IfSome, IsErr, IsOk, OnErr, OnOk, false};
+ghost use Rattle.std.specs.Prelude.{◌≡◌, ◌≤◌, ◌<◌, ◌⊎◌, ◌↔◌, ◌++◌, length, ℕ, List, [], ◌∷◌};
+ghost use Rattle.std.specs.Prelude.{IsTrue, IfOk, IfSome, IsErr, IsOk, OnErr, OnOk, false};
 ghost use Rattle.frame_codec.specs.declared.frame.Frame.TheVariants.{Publish};
 ghost use Rattle.frame_codec.specs.Streams.{unfinished_size};
 ghost use Rattle.frame_codec.specs.Refusals.{refused};
 ghost use Rattle.frame_codec.specs.Frames.{IsFrame, encoding};
 ghost use Rattle.version_store.specs.Histories.{History, StandsFor};
 ghost use Rattle.server_core.specs.Serving.{setting_of, is_closed, IsFull, MayPublish, PublishesIf};
-ghost use Rattle.server_core.specs.Sessions.{new_session, frames_taken, bytes_used, reading_end, HasTaken, Ended, Fed, FedFirst, ServedFrames, ServedOpen, StoppedFrames, IsUnjudged, HasWordsNext, IsComing, IsUnread, IsFirstUnread, WouldAnswer, WouldPublish};
+ghost use Rattle.server_core.specs.Sessions.{new_session, frames_taken, bytes_used, reading_end};
+ghost use Rattle.server_core.specs.Sessions.{HasTaken, Ended, Fed, FedFirst, ServedFrames};
+ghost use Rattle.server_core.specs.Sessions.{ServedOpen, StoppedFrames, IsUnjudged, HasWordsNext};
+ghost use Rattle.server_core.specs.Sessions.{IsComing, IsUnread, IsFirstUnread, WouldAnswer};
+ghost use Rattle.server_core.specs.Sessions.{WouldPublish};
 
 use crate::replies::{SHORT_REPLY, put_refused};
 use crate::serve::{has_wide_frames, serve_frame, serve_frames};
 use crate::standing::Standing;
-use frame_codec::{Frame, ReadFault, Reader, Refusal, Taken, Words};
+use frame_codec::{Frame, FrameRead, ReadFault, Reader, Refusal, Words};
 use matrix_u32::Kernel;
 use pir_schemes::Scheme;
 use std::alloc::{AllocError, Global};
@@ -30,7 +35,8 @@ pub enum Coming {
     Publication,
 }
 
-/// Who a session speaks for, and what has come of its next frame. The stream of an open one has not failed.
+/// Who a session speaks for, and what has come of its next frame. The stream of an open one has not
+/// failed.
 #[derive(Drop)]
 pub struct Session {
     standing: Standing,
@@ -72,8 +78,8 @@ impl Session {
         self.reader.unfinished_len()
     }
 
-    /// Whether the next frame of the stream, which a piece completes, is a publication that is made unless memory is refused.
-    /// This takes no memory.
+    /// Whether the next frame of the stream, which a piece completes, is a publication that is made
+    /// unless memory is refused. This takes no memory.
     pub fn publishes_next<K: Kernel>(&self, store: &Store<K>, piece: &[u8]) -> bool
         ensures { IsTrue result ↔ WouldPublish self.now piece.now store.now }
     {
@@ -96,8 +102,8 @@ impl Session {
         }
     }
 
-    /// The scheme of the next frame of the stream, which a piece completes, if that is a query to be answered and its answer is
-    /// made in more than one step.
+    /// The scheme of the next frame of the stream, which a piece completes, if that is a query to
+    /// be answered and its answer is made in more than one step.
     fn long_answer_next<K: Kernel>(&self, store: &Store<K>, piece: &[u8]) -> Option<Scheme>
         ensures { IfSome result (λ scheme. WouldAnswer self.now piece.now store.now scheme) }
     {
@@ -116,8 +122,8 @@ impl Session {
         }
     }
 
-    /// The words of the next frame of the stream, which a piece completes, if that is a query of so many words. There is
-    /// none where memory is refused, too.
+    /// The words of the next frame of the stream, which a piece completes, if that is a query of so
+    /// many words. There is none where memory is refused, too.
     pub fn next_words(&self, wide: bool, piece: &[u8], count: usize) -> Option<Vec<u32>>
         ensures words { IfSome result (λ words. HasWordsNext wide self.now piece.now words.items) }
         ensures count { IfSome result (λ words. length words.items ≡ count) }
@@ -128,9 +134,9 @@ impl Session {
         }
     }
 
-    /// Takes the next piece of the stream, and adds the replies to the frames that are whole now. A closed
-    /// session takes it and adds nothing. At an `Err` memory was refused: the session is closed, and `out` has
-    /// the replies to the frames before.
+    /// Takes the next piece of the stream, and adds the replies to the frames that are whole now. A
+    /// closed session takes it and adds nothing. At an `Err` memory was refused: the session is
+    /// closed, and `out` has the replies to the frames before.
     pub fn feed<K: Kernel>(
         &mut self,
         alloc: Global,
@@ -162,10 +168,10 @@ impl Session {
         }
     }
 
-    /// Takes the next piece of the stream up to the end of the first frame that is whole then, adds the reply to
-    /// it, and answers how many bytes it took. Where no frame is whole it takes all, and where a fault stands in
-    /// the frame's place. A closed session takes all and adds nothing. At an `Err` memory was refused: the session
-    /// is closed, and nothing was served.
+    /// Takes the next piece of the stream up to the end of the first frame that is whole then, adds
+    /// the reply to it, and answers how many bytes it took. Where no frame is whole it takes all,
+    /// and where a fault stands in the frame's place. A closed session takes all and adds nothing.
+    /// At an `Err` memory was refused: the session is closed, and nothing was served.
     pub fn feed_frame<K: Kernel>(
         &mut self,
         alloc: Global,
@@ -181,7 +187,8 @@ impl Session {
         ensures refused { OnErr result ((store.new ≡ store.old) ×
             (out.new.items ≡ out.old.items)) }
         ensures full { OnErr result (IsFull out.new ⊎
-            IsFirstUnread (setting_of store.old) self.old.unfinished piece.now self.new.unfinished) }
+            IsFirstUnread (setting_of store.old) self.old.unfinished piece.now
+            self.new.unfinished) }
         ensures version { PublishesIf (WouldPublish self.old piece.now store.old)
             store.old.version store.new.version }
     {
@@ -189,7 +196,7 @@ impl Session {
             return Ok(piece.len());
         }
         let read = self.reader.feed_frame(has_wide_frames(store), piece);
-        let count = used_of(&read, piece.len());
+        let count = bytes_consumed(&read, piece.len());
         let Ok(standing) = serve_read(alloc, store, self.standing, read, out) else {
             self.standing = Standing::Closed;
             return Err(AllocError);
@@ -210,8 +217,9 @@ fn words_of_count(words: Words, count: usize) -> Option<Vec<u32>>
     Some(words.into_vec())
 }
 
-/// How many bytes of a piece, which has so many, are used up: those that were read, and after a fault all.
-fn used_of(read: &Result<Taken, ReadFault>, len: usize) -> usize
+/// How many bytes of a piece, which has so many, are used up: those that were read, and after a
+/// fault all.
+fn bytes_consumed(read: &Result<FrameRead, ReadFault>, len: usize) -> usize
     ensures { (piece : List ℕ) → length piece ≡ len → result ≡ bytes_used piece read.now }
 {
     match read {
@@ -220,13 +228,13 @@ fn used_of(read: &Result<Taken, ReadFault>, len: usize) -> usize
     }
 }
 
-/// Serves the frame that was read to an open session, if there is one, or reports the fault in its place. Answers the
-/// standing after it. At an `Err` memory was refused, and nothing was served.
+/// Serves the frame that was read to an open session, if there is one, or reports the fault in its
+/// place. Answers the standing after it. At an `Err` memory was refused, and nothing was served.
 fn serve_read<K: Kernel>(
     alloc: Global,
     store: &mut Store<K>,
     standing: Standing,
-    read: Result<Taken, ReadFault>,
+    read: Result<FrameRead, ReadFault>,
     out: &mut Vec<u8>,
 ) -> Result<Standing, AllocError>
     requires { is_closed standing ≡ false }
@@ -250,8 +258,8 @@ fn serve_read<K: Kernel>(
     }
 }
 
-/// Serves the frames that a piece completes, and then reports how the reading ended. Answers the standing after
-/// it. At an `Err` memory was refused.
+/// Serves the frames that a piece completes, and then reports how the reading ended. Answers the
+/// standing after it. At an `Err` memory was refused.
 fn serve_completed<K: Kernel>(
     alloc: Global,
     store: &mut Store<K>,
@@ -281,8 +289,8 @@ fn serve_completed<K: Kernel>(
     end_piece(middle, read, out)
 }
 
-/// What the end of a piece does to a session that is open. At an `Err` memory was refused, and nothing was
-/// added.
+/// What the end of a piece does to a session that is open. At an `Err` memory was refused, and
+/// nothing was added.
 fn end_piece(
     middle: Standing,
     read: Result<(), ReadFault>,
@@ -303,7 +311,8 @@ fn end_piece(
     }
 }
 
-/// Refuses what can't be read, and closes the session. At an `Err` memory was refused, and nothing was added.
+/// Refuses what can't be read, and closes the session. At an `Err` memory was refused, and nothing
+/// was added.
 fn refuse(out: &mut Vec<u8>) -> Result<Standing, AllocError>
     ensures closed { IfOk result (λ after. after ≡ Standing.Closed) }
     ensures items { OnOk result (out.new.items ≡ out.old.items ++ encoding

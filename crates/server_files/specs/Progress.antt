@@ -1,7 +1,8 @@
 -- What is said of an input while it is read.
 use Rattle.std.specs.Prelude.{ℕ, ◌+◌, ◌-◌, ◌*◌, ◌/◌, List, ◌++◌, Option, None, Some, codes, decimal}
 
--- how many seconds are left, rounded up, where some of a whole took so many milliseconds, and the rest goes on likewise
+-- how many seconds are left, rounded up, where some of a whole took so many milliseconds, and the
+-- rest goes on likewise
 abbrev pub seconds_left : ℕ → ℕ → ℕ → ℕ
 seconds_left passed done whole = (passed * (whole - done) / done + 999) / 1000
 

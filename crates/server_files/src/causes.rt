@@ -11,7 +11,8 @@ pub fn failed_at(rt: &HostRuntime, name: &str, failure: Failure) -> Failed {
     }
 }
 
-/// How a server that can't listen at an address failed: with the system's error, if it can't be listened on now, either.
+/// How a server that can't listen at an address failed: with the system's error, if it can't be
+/// listened on now, either.
 pub fn not_listening(rt: &HostRuntime, address: SocketAddr) -> Failed {
     let alloc = rt.alloc();
     let cause = match TcpListener::bind(rt, address) {
@@ -33,7 +34,8 @@ fn cause_of(failure: Failure) -> Option<&'static str> {
         "Write" => Some("what was to be written is not on the disk, or could not be printed"),
         "Read" => Some("reading failed"),
         "Input" => Some(
-            "no event comes of a file or of the null device: it takes a pipe, a socket or a terminal",
+            "no event comes of a file or of the null device: it takes a pipe, a socket or a \
+                terminal",
         ),
         "Locked" => Some("another process serves or replaces it"),
         "Exists" => Some("a file stands there, and --new replaces none"),

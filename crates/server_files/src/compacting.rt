@@ -14,14 +14,14 @@ use publication_log::{Publications, ReadLog, read_log_file, relinked, remove_oth
 use safe_files::{Bytes, FileSystem, replace_file};
 use std::fs;
 
-/// Puts all publications of a file's log into its snapshot, but the last 16, and prints the version of the snapshot and how many
-/// publications follow it.
+/// Puts all publications of a file's log into its snapshot, but the last 16, and prints the version
+/// of the snapshot and how many publications follow it.
 ///
 /// # Errors
 ///
-/// In this order: `File` where there is no file, `Locked` where another process has it, those of the snapshot, `Write` where the file
-/// can't be sent to the device, those of the log (`File`, `BadLog`), and those of the new files (`File`, `Write`). `Memory` where there
-/// was none.
+/// In this order: `File` where there is no file, `Locked` where another process has it, those of
+/// the snapshot, `Write` where the file can't be sent to the device, those of the log (`File`,
+/// `BadLog`), and those of the new files (`File`, `Write`). `Memory` where there was none.
 pub fn compact_file(rt: &HostRuntime, name: &str) -> Result<(), Failed> {
     match compact_pair(rt, name) {
         Ok(Compacted { version, after }) => printed(
@@ -84,7 +84,8 @@ fn compact_both<R: FileSystem>(
     })
 }
 
-/// A file that is to be served, with a log of more than 16 publications and more than so many bytes made shorter.
+/// A file that is to be served, with a log of more than 16 publications and more than so many bytes
+/// made shorter.
 ///
 /// # Errors
 ///
@@ -128,8 +129,9 @@ fn read_own<R: FileSystem>(rt: &R, own: &OwnLog) -> Result<Option<ReadLog>, Fail
     }
 }
 
-// Writes the log of the last 16 publications under the name that belongs to the snapshot before them, then that snapshot in the place of
-// the file, and removes the log of before. At each moment the file and its log have what they had.
+// Writes the log of the last 16 publications under the name that belongs to the snapshot before
+// them, then that snapshot in the place of the file, and removes the log of before. At each moment
+// the file and its log have what they had.
 fn shortened<R: FileSystem>(
     rt: &R,
     file: &mut OwnFile<'_, R>,

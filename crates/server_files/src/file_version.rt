@@ -1,8 +1,9 @@
 //! The version of the snapshot that a file has.
 //!
-//! A [`FileVersion`] is made here alone: when a snapshot was read to its end and its file was sent to the device, when the publications
-//! of its log were made again, when one more was appended to that log, or taken back, when a file was replaced by a snapshot, and when
-//! one was written to what is no file. So who has one did that, and a version can't be counted as saved without it.
+//! A [`FileVersion`] is made here alone: when a snapshot was read to its end and its file was sent
+//! to the device, when the publications of its log were made again, when one more was appended to
+//! that log, or taken back, when a file was replaced by a snapshot, and when one was written to
+//! what is no file. So who has one did that, and a version can't be counted as saved without it.
 
 ghost use Rattle.std.specs.Prelude.{◌≡◌, ◌+◌, ℕ, List, [], ◌∷◌, take, IfOk, OnOk, OnErr};
 ghost use Rattle.std.specs.List.{FoldsTo};
@@ -83,8 +84,9 @@ pub enum VersionFault {
     Settle(SettleFault),
 }
 
-/// Reads a snapshot, which must be the whole file, and sends the file and its name to the device, since whoever wrote it may have been
-/// killed before. What reports on the reading, if anything does, counts each read. The file is given back.
+/// Reads a snapshot, which must be the whole file, and sends the file and its name to the device,
+/// since whoever wrote it may have been killed before. What reports on the reading, if anything
+/// does, counts each read. The file is given back.
 ///
 /// # Errors
 ///
@@ -127,8 +129,8 @@ pub fn read_version<F: Read + Write + Drop, D: Disk<File = F>>(
     Ok((read, file))
 }
 
-/// The snapshot that a file has, after the first `n` publications of its log, made on its records alone. The digest stays that of the
-/// file.
+/// The snapshot that a file has, after the first `n` publications of its log, made on its records
+/// alone. The digest stays that of the file.
 ///
 /// # Errors
 ///

@@ -117,9 +117,11 @@ pub const NO_FILE: Failure = Failure::Fault("File");
 /// The failure of a file that can't be written.
 pub const NOT_WRITTEN: Failure = Failure::Fault("Write");
 
-/// A file that no other process serves or replaces, until the value is dropped. What is no file, as a terminal, has no lock.
+/// A file that no other process serves or replaces, until the value is dropped. What is no file, as
+/// a terminal, has no lock.
 ///
-/// Where the name given is a link, what it leads to is found once: that is what is locked, read and replaced.
+/// Where the name given is a link, what it leads to is found once: that is what is locked, read and
+/// replaced.
 #[derive(Drop)]
 pub struct OwnFile<'a, R: FileSystem = HostRuntime> {
     place: Place<'a, R>,
@@ -203,11 +205,13 @@ impl KeptFile {
     }
 }
 
-/// The snapshot that a file has. The file is on the device then. What reports on the reading, if anything does, counts each read.
+/// The snapshot that a file has. The file is on the device then. What reports on the reading, if
+/// anything does, counts each read.
 ///
 /// # Errors
 ///
-/// In this order: `File`, the refusals of the snapshot, `Write` where the file or its name can't be sent to the device; `Memory`.
+/// In this order: `File`, the refusals of the snapshot, `Write` where the file or its name can't be
+/// sent to the device; `Memory`.
 pub fn kept_file<R: FileSystem>(
     rt: &R,
     file: &mut OwnFile<'_, R>,
@@ -238,9 +242,10 @@ pub fn progress_of_file<'a>(rt: &'a HostRuntime, name: &str) -> Option<Progress<
     Progress::new(rt, whole)
 }
 
-/// The store of a snapshot that a file has, after the publications of its log, and the version that both have: the store's. All but the
-/// last 16 publications are made on the records alone, before any hint is: the store is the same. Its hints are watched while their
-/// rows are made, first that of SimplePIR and then that of DoublePIR.
+/// The store of a snapshot that a file has, after the publications of its log, and the version that
+/// both have: the store's. All but the last 16 publications are made on the records alone, before
+/// any hint is: the store is the same. Its hints are watched while their rows are made, first that
+/// of SimplePIR and then that of DoublePIR.
 ///
 /// # Errors
 ///
@@ -304,8 +309,9 @@ pub fn snapshot_in(rt: &HostRuntime, name: &str) -> Result<(Snapshot, [u8; 32]),
     }
 }
 
-/// Writes a snapshot that no log follows in the place of a file, or makes it, and answers the version that it has then. A log that
-/// belongs to this very snapshot is removed before, since it would be taken for its own, and those of other snapshots after.
+/// Writes a snapshot that no log follows in the place of a file, or makes it, and answers the
+/// version that it has then. A log that belongs to this very snapshot is removed before, since it
+/// would be taken for its own, and those of other snapshots after.
 ///
 /// # Errors
 ///
@@ -331,12 +337,14 @@ pub fn write_anew<R: FileSystem, C: Versioned>(
     Ok(has)
 }
 
-/// Writes the snapshot of a header and of all bytes that a reader has, which must be as many as the header's records have, in the place
-/// of a file, or makes it. The logs of other snapshots are removed after.
+/// Writes the snapshot of a header and of all bytes that a reader has, which must be as many as the
+/// header's records have, in the place of a file, or makes it. The logs of other snapshots are
+/// removed after.
 ///
 /// # Errors
 ///
-/// Those of [`replace_read`], and of a device that can't be written to. A part of the snapshot may have gone to a device then.
+/// Those of [`replace_read`], and of a device that can't be written to. A part of the snapshot may
+/// have gone to a device then.
 pub fn write_read<R: Read>(
     rt: &HostRuntime,
     file: &mut OwnFile<'_>,
@@ -394,13 +402,14 @@ pub fn digest_of<C: Content>(alloc: Global, content: &C) -> Result<[u8; 32], Fai
     }
 }
 
-/// Writes a snapshot to a file that is made, or replaces it, and answers the version that it has then: the file is whole at any
-/// moment, the old one or the new one. What is no file, as a terminal, is written to as it is.
+/// Writes a snapshot to a file that is made, or replaces it, and answers the version that it has
+/// then: the file is whole at any moment, the old one or the new one. What is no file, as a
+/// terminal, is written to as it is.
 ///
 /// # Errors
 ///
-/// `File` where no file can be made beside it, or can't be given the name; `Write` where it can't be written or sent to
-/// the device; `Memory`. None is left beside it.
+/// `File` where no file can be made beside it, or can't be given the name; `Write` where it can't
+/// be written or sent to the device; `Memory`. None is left beside it.
 pub fn write_file<R: FileSystem, C: Versioned>(
     rt: &R,
     file: &mut OwnFile<'_, R>,

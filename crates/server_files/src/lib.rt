@@ -1,8 +1,10 @@
-//! Snapshot files with their logs: read, replaced, made shorter, opened to be served, and appended to.
+//! Snapshot files with their logs: read, replaced, made shorter, opened to be served, and appended
+//! to.
 //!
 //! A [`FileVersion`] is made here alone, and only once the file has that version.
 //!
-//! Its tests are in `tests/causes`, `tests/log`, `tests/making`, `tests/loopback` and `tests/service`.
+//! Its tests are in `tests/causes`, `tests/log`, `tests/making`, `tests/loopback` and
+//! `tests/service`.
 #![tactic(auto)]
 
 mod causes;

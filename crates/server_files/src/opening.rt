@@ -28,13 +28,15 @@ pub struct OpenPair<F: Write + OpenFile + Drop> {
     pub log: OpenedLog<F>,
 }
 
-/// Opens a file and its log to serve them. A log of more than so many bytes is made shorter first, and a torn end is cut off. What
-/// reports on the reading of the file, if anything does, counts each read.
+/// Opens a file and its log to serve them. A log of more than so many bytes is made shorter first,
+/// and a torn end is cut off. What reports on the reading of the file, if anything does, counts
+/// each read.
 ///
 /// # Errors
 ///
-/// In this order: those of the snapshot, `Write` if the file can't be sent to the device, those of its log (`File`, `BadLog`, `Write` if
-/// a torn end can't be cut off, or if a log that is too long can't be made shorter); `Memory`.
+/// In this order: those of the snapshot, `Write` if the file can't be sent to the device, those of
+/// its log (`File`, `BadLog`, `Write` if a torn end can't be cut off, or if a log that is too long
+/// can't be made shorter); `Memory`.
 pub fn open_pair<R: FileSystem>(
     rt: &R,
     file: &mut OwnFile<'_, R>,
@@ -55,8 +57,8 @@ pub fn open_pair<R: FileSystem>(
 }
 
 impl<F: Write + OpenFile + Drop> OpenPair<F> {
-    /// The store of the snapshot after the publications of its log, and what appends to that log. The store's hints are watched while
-    /// they are made.
+    /// The store of the snapshot after the publications of its log, and what appends to that log.
+    /// The store's hints are watched while they are made.
     ///
     /// # Errors
     ///

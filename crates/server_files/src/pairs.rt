@@ -41,11 +41,13 @@ pub struct Whole {
     pub log: Option<LogSize>,
 }
 
-/// The last version that a file and its log have. Another process may serve them meanwhile: neither is changed, and no lock is taken.
+/// The last version that a file and its log have. Another process may serve them meanwhile: neither
+/// is changed, and no lock is taken.
 ///
 /// # Errors
 ///
-/// In this order: `File` where there is no file or its log can't be read, the refusals of the snapshot, `BadLog`; `Memory`.
+/// In this order: `File` where there is no file or its log can't be read, the refusals of the
+/// snapshot, `BadLog`; `Memory`.
 pub fn whole_of(rt: &HostRuntime, name: &str) -> Result<Whole, Failure>
     ensures sound { IfOk result (λ it.
         IsSound (header_of it.snapshot) it.snapshot.records.items) }

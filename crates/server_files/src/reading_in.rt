@@ -38,8 +38,9 @@ pub enum Unwritten {
     File(Failure, usize),
 }
 
-/// Replaces a file of this name by the snapshot of a header and of all bytes that a reader has, which must be as many as the header's
-/// records have, or makes it. A log that belongs to this very snapshot is removed before, since it would be taken for its own.
+/// Replaces a file of this name by the snapshot of a header and of all bytes that a reader has,
+/// which must be as many as the header's records have, or makes it. A log that belongs to this very
+/// snapshot is removed before, since it would be taken for its own.
 ///
 /// # Errors
 ///

@@ -1,15 +1,17 @@
 //! Publications saved in the log of a snapshot file.
 
-ghost use Rattle.std.specs.Prelude.{◌≡◌, ◌<◌, ◌+◌, ◌^◌, ◌↔◌, IfOk, IfSome, IsErrOf, IsTrue, OnOk, true};
+ghost use Rattle.std.specs.Prelude.{◌≡◌, ◌<◌, ◌+◌, ◌^◌, ◌↔◌, IfOk, IfSome, IsErrOf, IsTrue, OnOk};
+ghost use Rattle.std.specs.Prelude.{true};
 
 use crate::file_version::{FileVersion, append_version, take_back_version};
+use connection_turns::{AppendFailed, SaveFailed};
 use log_replay::draft_publication;
 use publication_log::{AppendFault, Disk, Log, LogEnd};
-use service_core::{AppendFailed, SaveFailed};
 use session_core::{Lanes, Store};
 use std::alloc::Global;
 
-/// Appends publications to the log of a snapshot file. What it counts as saved is what file and log have.
+/// Appends publications to the log of a snapshot file. What it counts as saved is what file and log
+/// have.
 #[derive(Drop)]
 pub struct LogSaver<D: Disk + Drop> {
     log: Log<D>,
@@ -21,7 +23,8 @@ pub struct LogSaver<D: Disk + Drop> {
 impl<D: Disk + Drop> LogSaver<D> {
     ghost use Rattle.server_files.specs.Saved.{saved_version};
 
-    /// One for the log that a file has, and the version that both have; `None` if the log has another one.
+    /// One for the log that a file has, and the version that both have; `None` if the log has
+    /// another one.
     pub fn of(log: Log<D>, has: FileVersion) -> Option<LogSaver<D>>
         ensures { IfSome result (λ saver. saved_version saver ≡ has.version) }
     {
@@ -32,11 +35,13 @@ impl<D: Disk + Drop> LogSaver<D> {
         Some(LogSaver { log, has, before })
     }
 
-    /// Appends a publication before it is made: the store's draft, as the next version, is in the log then.
+    /// Appends a publication before it is made: the store's draft, as the next version, is in the
+    /// log then.
     ///
     /// # Errors
     ///
-    /// If it could not be appended: nothing of it is left, or, if that can't be had either, a part may be.
+    /// If it could not be appended: nothing of it is left, or, if that can't be had either, a part
+    /// may be.
     pub fn append(&mut self, alloc: Global, store: &Store<Lanes>) -> Result<(), AppendFailed>
         requires saved { saved_version self.old ≡ store.now.version }
         requires draft { store.now.marked ≡ true }

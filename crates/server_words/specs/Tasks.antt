@@ -21,7 +21,8 @@ use Rattle.server_words.specs.declared.run_line.RunOptions.{RunOptions}
 abbrev pub IsNumberGiven : Found → List ℕ → ℕ → Type 0
 IsNumberGiven found name n = MatchOption (first_value found name) ⊥ (λ text. IsNumeral 10 text × (digits_value 10 text ≡ n))
 
--- what was given for a name is this number in decimal digits, or nothing was given and it is the usual one
+-- what was given for a name is this number in decimal digits, or nothing was given and it is the
+-- usual one
 abbrev pub IsNumberOr : ℕ → Found → List ℕ → ℕ → Type 0
 IsNumberOr usual found name n =
     MatchOption (first_value found name) (n ≡ usual) (λ text. IsNumeral 10 text × (digits_value 10 text ≡ n))
@@ -35,12 +36,14 @@ abbrev pub IsFlagGiven : Found → List ℕ → Bool → Type 0
 IsFlagGiven found name flag =
     (one_text found name ≡ None → flag ≡ false) × (one_text found name ≡ Some (codes "true") → flag ≡ true)
 
--- what was given for a name is this number in decimal digits, or nothing was given and there is none
+-- what was given for a name is this number in decimal digits, or nothing was given and there is
+-- none
 abbrev pub IsNumberIf : Found → List ℕ → Option ℕ → Type 0
 IsNumberIf found name n =
     MatchOption (first_value found name) (n ≡ None) (λ text. IsNumeral 10 text × (n ≡ Some (digits_value 10 text)))
 
--- a new store, as the options of `make` ask for it, but whether it must be new and whether is said how much was read
+-- a new store, as the options of `make` ask for it, but whether it must be new and whether is said
+-- how much was read
 abbrev pub ReadsMake : Found → Making → Type 0
 ReadsMake found making =
     (first_value found (codes "out") ≡ Some making.out.now) × IsNumberOr 1 found (codes "form") making.form
@@ -83,14 +86,15 @@ abbrev pub ReadsDraft : Found → DraftLife → Type 0
 ReadsDraft found Publication = (first_value found (codes "draft") ≡ None) ⊎ (first_value found (codes "draft") ≡ Some (codes "publication"))
 ReadsDraft found Session = first_value found (codes "draft") ≡ Some (codes "session")
 
--- How many seconds what was begun has after the end of standard input: the number given, or 10. If the flag is not given, there is
--- none, and none was given.
+-- How many seconds what was begun has after the end of standard input: the number given, or 10. If
+-- the flag is not given, there is none, and none was given.
 abbrev pub ReadsGrace : Found → Option ℕ → Type 0
 ReadsGrace found grace =
     (stops : Bool) × IsFlagGiven found (codes "until-eof") stops
     × MatchBool stops (IsSomeAnd grace (IsNumberOr 10 found (codes "grace"))) ((grace ≡ None) × (first_value found (codes "grace") ≡ None))
 
--- connections side by side, as those of `run` do, but the addresses, whether it is quiet, and whether is said how far the hints are
+-- connections side by side, as those of `run` do, but the addresses, whether it is quiet, and
+-- whether is said how far the hints are
 abbrev pub ReadsRun : Found → RunOptions → Type 0
 ReadsRun found running =
     (first_value found (codes "file") ≡ Some running.file.now) × IsNumberOr 256 found (codes "most") running.most

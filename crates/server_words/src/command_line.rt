@@ -2,7 +2,8 @@
 
 ghost use Rattle.std.specs.Prelude.{IfOk};
 ghost use Rattle.clap.specs.Matches.{found_of};
-ghost use Rattle.server_words.specs.Tasks.{ReadsBackup, ReadsMigrate, ReadsRekey, ReadsServe, ReadsWiden};
+ghost use Rattle.server_words.specs.Tasks.{ReadsBackup, ReadsMigrate, ReadsRekey, ReadsServe};
+ghost use Rattle.server_words.specs.Tasks.{ReadsWiden};
 
 use crate::make_line::{MAKE, Making, making_of};
 use crate::run_line::{RUN, RunOptions, options_of_run};
@@ -113,8 +114,13 @@ pub struct Asked<'a> {
 // The command `migrate`.
 const MIGRATE: CommandText = CommandText {
     name: "migrate",
-    about: "Makes a snapshot file of the same records in slots, so that each may have a length of its own",
-    example: "Prints 'migrated COUNT VERSION'. A slot has two bytes more than the record had: its length. Version, seed and the\npublisher's key stay; hints of the old file are of no use with the new one.\n\nExample: pir_server migrate --file two.pir --out slots.pir\n\nWith --verbose a fault has a second line, 'cause: TEXT', that says what failed and where.",
+    about: "Makes a snapshot file of the same records in slots, so that each may have a length of \
+        its own",
+    example: "Prints 'migrated COUNT VERSION'. A slot has two bytes more than the record had: its \
+        length. Version, seed and the\n\
+        publisher's key stay; hints of the old file are of no use with the new one.\n\n\
+        Example: pir_server migrate --file two.pir --out slots.pir\n\n\
+        With --verbose a fault has a second line, 'cause: TEXT', that says what failed and where.",
     arguments: &[
         Argument::Verbose,
         Argument::Required {
@@ -133,8 +139,13 @@ const MIGRATE: CommandText = CommandText {
 // The command `widen`.
 const WIDEN: CommandText = CommandText {
     name: "widen",
-    about: "Makes a snapshot file of the same records in a wide store, which can grow beyond an ordinary one",
-    example: "Prints 'widened COUNT VERSION'. Form 1 becomes 129, and 2 becomes 130. Version and the publisher's key stay; hints of the old file are of\nno use with the new one.\n\nExample: pir_server widen --file two.pir --out wide.pir --seed $(openssl rand -hex 32)\n\nWith --verbose a fault has a second line, 'cause: TEXT', that says what failed and where.",
+    about: "Makes a snapshot file of the same records in a wide store, which can grow beyond an \
+        ordinary one",
+    example: "Prints 'widened COUNT VERSION'. Form 1 becomes 129, and 2 becomes 130. Version and \
+        the publisher's key stay; hints of the old file are of\n\
+        no use with the new one.\n\n\
+        Example: pir_server widen --file two.pir --out wide.pir --seed $(openssl rand -hex 32)\n\n\
+        With --verbose a fault has a second line, 'cause: TEXT', that says what failed and where.",
     arguments: &[
         Argument::Verbose,
         Argument::Required {
@@ -150,7 +161,8 @@ const WIDEN: CommandText = CommandText {
         Argument::Required {
             name: "seed",
             value: "HEX",
-            help: "The public seed of the new store's matrices: 32 bytes as 64 hex digits that no other store has, or @FILE",
+            help: "The public seed of the new store's matrices: 32 bytes as 64 hex digits that no \
+                other store has, or @FILE",
         },
     ],
 };
@@ -159,7 +171,11 @@ const WIDEN: CommandText = CommandText {
 const REKEY: CommandText = CommandText {
     name: "rekey",
     about: "Gives a snapshot file another publisher's key, while no server serves it",
-    example: "Prints 'rekeyed COUNT VERSION'. Records, version and seed stay, so all hints stay good. The old key is of no use from\nthen on.\n\nExample: pir_server rekey --file two.pir --key @key.txt\n\nWith --verbose a fault has a second line, 'cause: TEXT', that says what failed and where.",
+    example: "Prints 'rekeyed COUNT VERSION'. Records, version and seed stay, so all hints stay \
+        good. The old key is of no use from\n\
+        then on.\n\n\
+        Example: pir_server rekey --file two.pir --key @key.txt\n\n\
+        With --verbose a fault has a second line, 'cause: TEXT', that says what failed and where.",
     arguments: &[
         Argument::Verbose,
         Argument::Required {
@@ -170,7 +186,8 @@ const REKEY: CommandText = CommandText {
         Argument::Required {
             name: "key",
             value: "HEX",
-            help: "The publisher's key from now on: 32 bytes as 64 hex digits, not all 0, or @FILE; the snapshot keeps its SHA-256 alone",
+            help: "The publisher's key from now on: 32 bytes as 64 hex digits, not all 0, or \
+                @FILE; the snapshot keeps its SHA-256 alone",
         },
     ],
 };
@@ -179,7 +196,15 @@ const REKEY: CommandText = CommandText {
 const SHOW: CommandText = CommandText {
     name: "show",
     about: "Shows what a snapshot file holds and how many bytes its retrievals take",
-    example: "Prints a line each: the version; the form; how many records there are and their length, in form 2 the most that one may\nhave and the longest that one has; the bits of a digit; the records in a\ncolumn; the rows and columns of digits; the words of a secret; for each scheme the bytes of the words of a hint, a query\nand an answer; and for each scheme whether every retrieval is certain to give its record, or depends on the noise drawn.\n\nExample: pir_server show --file two.pir\n\nWith --verbose a fault has a second line, 'cause: TEXT', that says what failed and where.",
+    example: "Prints a line each: the version; the form; how many records there are and their \
+        length, in form 2 the most that one may\n\
+        have and the longest that one has; the bits of a digit; the records in a\n\
+        column; the rows and columns of digits; the words of a secret; for each scheme the bytes \
+        of the words of a hint, a query\n\
+        and an answer; and for each scheme whether every retrieval is certain to give its record, \
+        or depends on the noise drawn.\n\n\
+        Example: pir_server show --file two.pir\n\n\
+        With --verbose a fault has a second line, 'cause: TEXT', that says what failed and where.",
     arguments: &[
         Argument::Verbose,
         Argument::Required {
@@ -193,8 +218,13 @@ const SHOW: CommandText = CommandText {
 // The command `compact`.
 const COMPACT: CommandText = CommandText {
     name: "compact",
-    about: "Puts all publications of a snapshot file's log into the file, but the last 16, while no server serves it",
-    example: "Prints 'compacted VERSION N': the version that the file has now, and how many publications its log has after that. Clients notice\nnothing: the deltas of the last 16 versions stay.\n\nExample: pir_server compact --file two.pir\n\nWith --verbose a fault has a second line, 'cause: TEXT', that says what failed and where.",
+    about: "Puts all publications of a snapshot file's log into the file, but the last 16, while \
+        no server serves it",
+    example: "Prints 'compacted VERSION N': the version that the file has now, and how many \
+        publications its log has after that. Clients notice\n\
+        nothing: the deltas of the last 16 versions stay.\n\n\
+        Example: pir_server compact --file two.pir\n\n\
+        With --verbose a fault has a second line, 'cause: TEXT', that says what failed and where.",
     arguments: &[
         Argument::Verbose,
         Argument::Required {
@@ -208,8 +238,12 @@ const COMPACT: CommandText = CommandText {
 // The command `backup`.
 const BACKUP: CommandText = CommandText {
     name: "backup",
-    about: "Copies the last version of a snapshot file and its log into one file, also while a server serves them",
-    example: "Prints 'backed up COUNT VERSION'. The copy is one file, which needs no log; it is read again after it was written.\n\nExample: pir_server backup --file two.pir --out copy.pir\n\nWith --verbose a fault has a second line, 'cause: TEXT', that says what failed and where.",
+    about: "Copies the last version of a snapshot file and its log into one file, also while a \
+        server serves them",
+    example: "Prints 'backed up COUNT VERSION'. The copy is one file, which needs no log; it is \
+        read again after it was written.\n\n\
+        Example: pir_server backup --file two.pir --out copy.pir\n\n\
+        With --verbose a fault has a second line, 'cause: TEXT', that says what failed and where.",
     arguments: &[
         Argument::Verbose,
         Argument::Required {
@@ -229,13 +263,19 @@ const BACKUP: CommandText = CommandText {
 const SERVE: CommandText = CommandText {
     name: "serve",
     about: "Serves a snapshot file on 127.0.0.1, one connection after the other",
-    example: "Prints 'listening PORT' once it listens. A connection that ends with a fault is reported on standard error,\nas 'connection: NAME', and the next one is served. Edits that were not published are lost at the end.\n\nExample: pir_server serve --file two.pir --port 7000 --connections 3\n\nWith --verbose a fault has a second line, 'cause: TEXT', that says what failed and where.",
+    example: "Prints 'listening PORT' once it listens. A connection that ends with a fault is \
+        reported on standard error,\n\
+        as 'connection: NAME', and the next one is served. Edits that were not published are lost \
+        at the end.\n\n\
+        Example: pir_server serve --file two.pir --port 7000 --connections 3\n\n\
+        With --verbose a fault has a second line, 'cause: TEXT', that says what failed and where.",
     arguments: &[
         Argument::Verbose,
         Argument::Required {
             name: "file",
             value: "FILE",
-            help: "The snapshot file; it is replaced after each connection that published a version",
+            help: "The snapshot file; it is replaced after each connection that published a \
+                version",
         },
         Argument::Required {
             name: "port",
@@ -253,7 +293,8 @@ const SERVE: CommandText = CommandText {
 // The command `once`.
 const ONCE: CommandText = CommandText {
     name: "once",
-    about: "Serves one database over standard input and output: its frames are a Load, Queries, a Bye",
+    about: "Serves one database over standard input and output: its frames are a Load, Queries, a \
+        Bye",
     example: "The same as no command.\n\nExample: pir_server once < frames > replies",
     arguments: &[],
 };
@@ -275,8 +316,31 @@ fn whole_command<'a>(alloc: Global) -> Result<Command<'a>, AllocError> {
 /// What `--version` prints after the program's name.
 const VERSION: &str = "0.2.0";
 
-const EXIT_STATUSES: &str =
-    "Without a command: once.\n\nA value @FILE of --seed or --key is read from that file; one on the command line itself stands in the list of\nprocesses, for other users of this machine to see.\n\nExit status: 0 done, 2 a bad command line, 3 a fault, 4 out of memory.\n\nA fault is one line on standard error, 'fault: NAME':\n  File           a file can't be opened or made, or is none, as a folder or a pipe\n  Read, Write    reading or writing failed\n  BadRecords     the input of make is not whole records, or not as many as --count says, or lines that are none, or too many bytes\n  BadLayout      no store has these sizes\n  NotSnapshot, Short, BadDigest, TrailingBytes, BadSlot   a file that is no whole snapshot\n  BadLog         the log beside the file is damaged, or is none of its snapshot\n  NotFormOne     the records that migrate is to move stand in slots already\n  TooWide        no store has records of two bytes more\n  NotOrdinary    the store that widen is to move is a wide one already\n  BadWidth       its digits have 10 bits, and in a wide store at most 9\n  Locked         another process serves or replaces the file\n  Exists         something stands where make --new is to make a file\n  Connect        the port can't be listened on\n  BadInput       the input of once can't be served; its last reply is Refused 1\n  TurnsUsedUp    more reads than a session has\n  Memory         memory was refused (status 4)\n\nWith --verbose a second line 'cause: TEXT' says what failed and where.";
+const EXIT_STATUSES: &str = "Without a command: once.\n\n\
+        A value @FILE of --seed or --key is read from that file; one on the command line itself \
+        stands in the list of\n\
+        processes, for other users of this machine to see.\n\n\
+        Exit status: 0 done, 2 a bad command line, 3 a fault, 4 out of memory.\n\n\
+        A fault is one line on standard error, 'fault: NAME':\
+        \n  File           a file can't be opened or made, or is none, as a folder or a pipe\
+        \n  Read, Write    reading or writing failed\
+        \n  BadRecords     the input of make is not whole records, or not as many as --count says, \
+        or lines that are none, or too many bytes\
+        \n  BadLayout      no store has these sizes\
+        \n  NotSnapshot, Short, BadDigest, TrailingBytes, BadSlot   a file that is no whole \
+        snapshot\
+        \n  BadLog         the log beside the file is damaged, or is none of its snapshot\
+        \n  NotFormOne     the records that migrate is to move stand in slots already\
+        \n  TooWide        no store has records of two bytes more\
+        \n  NotOrdinary    the store that widen is to move is a wide one already\
+        \n  BadWidth       its digits have 10 bits, and in a wide store at most 9\
+        \n  Locked         another process serves or replaces the file\
+        \n  Exists         something stands where make --new is to make a file\
+        \n  Connect        the port can't be listened on\
+        \n  BadInput       the input of once can't be served; its last reply is Refused 1\
+        \n  TurnsUsedUp    more reads than a session has\
+        \n  Memory         memory was refused (status 4)\n\n\
+        With --verbose a second line 'cause: TEXT' says what failed and where.";
 
 // What the words of `migrate` ask for.
 fn migrating_of<'a>(found: &ArgMatches<'a>) -> Result<Migrating<'a>, BadLine<'a>>

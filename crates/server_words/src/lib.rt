@@ -1,7 +1,7 @@
 //! What the words of `pir_server`'s commands ask for, and what its help says of them.
 //!
-//! Each command is a table (`CommandText` of `command_words`); what is read of the words is a structure, and a contract says which word
-//! each field has.
+//! Each command is a table (`CommandText` of `command_words`); what is read of the words is a
+//! structure, and a contract says which word each field has.
 //!
 //! Its tests are in `tests/command_line`.
 #![tactic(auto)]

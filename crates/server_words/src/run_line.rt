@@ -2,7 +2,8 @@
 
 ghost use Rattle.std.specs.Prelude.{◌≤◌, IfOk, IfSome};
 ghost use Rattle.clap.specs.Matches.{found_of};
-ghost use Rattle.server_words.specs.Tasks.{IsNumberIf, IsNumberOr, ReadsDraft, ReadsFormat, ReadsGrace, ReadsRun};
+ghost use Rattle.server_words.specs.Tasks.{IsNumberIf, IsNumberOr, ReadsDraft, ReadsFormat};
+ghost use Rattle.server_words.specs.Tasks.{ReadsGrace, ReadsRun};
 
 use clap::ArgMatches;
 use command_words::{Argument, BadLine, CommandText, number_at, text_at};
@@ -32,10 +33,12 @@ const LOG_TAKES: &str = "--log takes text or json";
 const GRACE_TAKES: &str =
     "--grace takes a number of seconds from 1 to 3600, and is for --until-eof alone";
 
-/// How many seconds what was begun has after the end of standard input where `--grace` is not given.
+/// How many seconds what was begun has after the end of standard input where `--grace` is not
+/// given.
 const GRACE: u64 = 10;
 
-/// How many MiB the log may have when a server starts, before it is made shorter, if `--log-limit` is not given.
+/// How many MiB the log may have when a server starts, before it is made shorter, if `--log-limit`
+/// is not given.
 const LOG_LIMIT: u64 = 64;
 
 /// How many connections there may be at once where `--most` is not given.
@@ -44,8 +47,8 @@ const MOST: u64 = 256;
 /// After how many seconds without progress a connection is closed where `--idle` is not given.
 const IDLE: u64 = 60;
 
-/// How many MiB the unfinished frames of all connections, and the replies owed to them, may have together where `--memory` is not
-/// given.
+/// How many MiB the unfinished frames of all connections, and the replies owed to them, may have
+/// together where `--memory` is not given.
 const MEMORY: u64 = 256;
 
 /// What `run` is to serve.
@@ -59,12 +62,13 @@ pub struct RunOptions<'a> {
     pub most: usize,
     /// After how many seconds without progress a connection is closed: 1 to 86400.
     pub idle: u64,
-    /// How many MiB the unfinished frames of all connections, and the replies owed to them, may have together: 1 to 1048576.
+    /// How many MiB the unfinished frames of all connections, and the replies owed to them, may
+    /// have together: 1 to 1048576.
     pub memory: u64,
     /// How many MiB the log may have at the start before it is made shorter: 1 to 1048576.
     pub log_limit: u64,
-    /// How many seconds what was begun has after the end of standard input: 1 to 3600. If there is no number, the server is not to
-    /// stop there.
+    /// How many seconds what was begun has after the end of standard input: 1 to 3600. If there is
+    /// no number, the server is not to stop there.
     pub grace: Option<u64>,
     /// How many connections one IP address may have at once, if that is bounded: 1 to 65535.
     pub most_per_peer: Option<u64>,
@@ -76,75 +80,102 @@ pub struct RunOptions<'a> {
     pub draft: DraftLife,
     /// Whether the faults of connections are left out on standard error.
     pub quiet: bool,
-    /// Whether it is said there how much of the file has been read, and how many rows of the hints are made.
+    /// Whether it is said there how much of the file has been read, and how many rows of the hints
+    /// are made.
     pub progress: bool,
 }
 
 /// The command `run`.
 pub const RUN: CommandText = CommandText {
     name: "run",
-    about: "Serves a snapshot file, many connections side by side, until it is killed or, with --until-eof, standard input ends",
-    example: "Prints 'listening ADDR:PORT' once it listens, and 'status ADDR:PORT' after that with --status. Before that it makes the hints, first SimplePIR's and then DoublePIR's: with --progress standard error has lines 'input: BYTES bytes, SECONDS s left' of the file, and 'hint: K of ALL rows, SECONDS s left' of either hint. A connection that ends with a fault is reported on standard error,\nas 'connection: NAME', and the others go on. A publication is acknowledged only once its log has it on the disk; if it\ncan't be appended the connection is closed, and the version before is served on. What is sent is not encrypted: listen on 127.0.0.1 or [::1] unless a tunnel or a proxy\nstands before the port.\n\nExample: pir_server run --file two.pir --listen 127.0.0.1:7000\n\nWith --verbose a fault has a second line, 'cause: TEXT', that says what failed and where.",
+    about: "Serves a snapshot file, many connections side by side, until it is killed or, with \
+        --until-eof, standard input ends",
+    example: "Prints 'listening ADDR:PORT' once it listens, and 'status ADDR:PORT' after that with \
+        --status. Before that it makes the hints, first SimplePIR's and then DoublePIR's: with \
+        --progress standard error has lines 'input: BYTES bytes, SECONDS s left' of the file, and \
+        'hint: K of ALL rows, SECONDS s left' of either hint. A connection that ends with a fault \
+        is reported on standard error,\n\
+        as 'connection: NAME', and the others go on. A publication is acknowledged only once its \
+        log has it on the disk; if it\n\
+        can't be appended the connection is closed, and the version before is served on. What is \
+        sent is not encrypted: listen on 127.0.0.1 or [::1] unless a tunnel or a proxy\n\
+        stands before the port.\n\n\
+        Example: pir_server run --file two.pir --listen 127.0.0.1:7000\n\n\
+        With --verbose a fault has a second line, 'cause: TEXT', that says what failed and where.",
     arguments: &[
         Argument::Verbose,
         Argument::Required {
             name: "file",
             value: "FILE",
-            help: "The snapshot file; a publication is appended to a log beside it, FILE.log- and 16 hex digits, before it is acknowledged",
+            help: "The snapshot file; a publication is appended to a log beside it, FILE.log- and \
+                16 hex digits, before it is acknowledged",
         },
         Argument::Required {
             name: "listen",
             value: "ADDR:PORT",
-            help: "The address and the port to listen on, as 127.0.0.1:7000 or [::1]:7000; port 0 takes any that is free",
+            help: "The address and the port to listen on, as 127.0.0.1:7000 or [::1]:7000; port 0 \
+                takes any that is free",
         },
         Argument::Optional {
             name: "most",
             value: "N",
-            help: "How many connections there may be at once, 1 to 65535, and 16 fewer than the process may have descriptors; others wait until one ends (256 if not given)",
+            help: "How many connections there may be at once, 1 to 65535, and 16 fewer than the \
+                process may have descriptors; others wait until one ends (256 if not given)",
         },
         Argument::Optional {
             name: "idle",
             value: "SECONDS",
-            help: "After how many seconds without progress a connection is closed, 1 to 86400 (60 if not given): of a whole frame that came, or of all that was owed to it taken",
+            help: "After how many seconds without progress a connection is closed, 1 to 86400 (60 \
+                if not given): of a whole frame that came, or of all that was owed to it taken",
         },
         Argument::Optional {
             name: "memory",
             value: "MIB",
-            help: "How many MiB the unfinished frames of all connections, and the replies that they have not taken, may have together; past that the connection with the most is closed (256 if not given)",
+            help: "How many MiB the unfinished frames of all connections, and the replies that \
+                they have not taken, may have together; past that the connection with the most is \
+                closed (256 if not given)",
         },
         Argument::Optional {
             name: "log-limit",
             value: "MIB",
-            help: "If the log has more MiB than this at the start, 1 to 1048576, all but its last 16 publications are put into the file first (64 if not given)",
+            help: "If the log has more MiB than this at the start, 1 to 1048576, all but its last \
+                16 publications are put into the file first (64 if not given)",
         },
         Argument::Optional {
             name: "most-per-peer",
             value: "N",
-            help: "How many connections one IP address may have at once, 1 to 65535; one more is closed at once (not bounded if not given)",
+            help: "How many connections one IP address may have at once, 1 to 65535; one more is \
+                closed at once (not bounded if not given)",
         },
         Argument::Optional {
             name: "status",
             value: "ADDR:PORT",
-            help: "A second address and port to listen on, for GET /health and GET /metrics over HTTP; port 0 takes any that is free (none if not given)",
+            help: "A second address and port to listen on, for GET /health and GET /metrics over \
+                HTTP; port 0 takes any that is free (none if not given)",
         },
         Argument::Optional {
             name: "log",
             value: "FORMAT",
-            help: "Writes a line on standard error for each event, with its time, as text or as json (only the faults of connections if not given)",
+            help: "Writes a line on standard error for each event, with its time, as text or as \
+                json (only the faults of connections if not given)",
         },
         Argument::Flag {
             name: "until-eof",
-            help: "Stops at the end of standard input, which must be a pipe, a socket or a terminal: accepts nothing more, serves what was begun, and ends with status 0",
+            help: "Stops at the end of standard input, which must be a pipe, a socket or a \
+                terminal: accepts nothing more, serves what was begun, and ends with status 0",
         },
         Argument::Optional {
             name: "grace",
             value: "SECONDS",
-            help: "How many seconds at most what was begun is served after the end of standard input, 1 to 3600 (10 if not given)",
+            help: "How many seconds at most what was begun is served after the end of standard \
+                input, 1 to 3600 (10 if not given)",
         },
         Argument::Optional {
             name: "draft",
             value: "END",
-            help: "With what a draft ends: its publication alone, or session: also the last session that edited it, so that what a publication cut short left is not published with the next one (publication if not given)",
+            help: "With what a draft ends: its publication alone, or session: also the last \
+                session that edited it, so that what a publication cut short left is not published \
+                with the next one (publication if not given)",
         },
         Argument::Flag {
             name: "quiet",
@@ -152,7 +183,9 @@ pub const RUN: CommandText = CommandText {
         },
         Argument::Flag {
             name: "progress",
-            help: "Says on standard error, each second until it listens, how much of the file has been read, and then how many rows of the hints are made, and how many seconds are left",
+            help: "Says on standard error, each second until it listens, how much of the file has \
+                been read, and then how many rows of the hints are made, and how many seconds are \
+                left",
         },
     ],
 };
@@ -231,7 +264,8 @@ pub fn number_if<'a>(
     }
 }
 
-// How many seconds what was begun has after the end of standard input, if the server is to stop there.
+// How many seconds what was begun has after the end of standard input, if the server is to stop
+// there.
 fn grace_at<'a>(found: &ArgMatches<'a>) -> Result<Option<u64>, BadLine<'a>>
     ensures within { IfOk result (λ grace. IfSome grace
         (λ seconds. (1 ≤ seconds) × (seconds ≤ 3600))) }

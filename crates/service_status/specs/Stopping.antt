@@ -3,7 +3,8 @@ use Rattle.std.specs.Prelude.{◌≡◌, ◌≤◌, ◌+◌, ◌-◌, ◌^◌, �
 use Rattle.service_status.specs.declared.stopping.Phase.{Phase}
 use Rattle.service_status.specs.declared.stopping.Phase.TheVariants.{Serving, Stopping}
 
--- The phase of a service whose input ended at a moment: it stops so many milliseconds later at most, or when it would have before.
+-- The phase of a service whose input ended at a moment: it stops so many milliseconds later at
+-- most, or when it would have before.
 abbrev pub stopping_from : ℕ → ℕ → Phase → Phase
 stopping_from now grace Serving = Stopping (min (now + grace) (2 ^ 64 - 1))
 stopping_from now grace (Stopping until) = Stopping until

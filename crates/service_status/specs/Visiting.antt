@@ -13,7 +13,8 @@ EndsVisit Ended = Unit {0}
 EndsVisit Failed = Unit {0}
 EndsVisit _ = ⊥
 
--- until when a visitor may stay once its response is written: half a second more at most, and never longer than before
+-- until when a visitor may stay once its response is written: half a second more at most, and never
+-- longer than before
 abbrev pub leaving_until : ℕ → ℕ → ℕ
 leaving_until now until = min until (min (now + 500) (2 ^ 64 - 1))
 

@@ -2,7 +2,8 @@
 
 use std::time::{Instant, SystemTime, UNIX_EPOCH};
 
-/// How many microseconds have passed since a moment; 0 where there is none, or the clock can't be read.
+/// How many microseconds have passed since a moment; 0 where there is none, or the clock can't be
+/// read.
 pub fn micros_since(rt: &HostRuntime, moment: Option<Instant>) -> u64 {
     let Some(moment) = moment else {
         return 0;

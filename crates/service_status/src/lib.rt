@@ -1,7 +1,10 @@
 //! What a service says of itself, and when it stops.
 //!
-//! Its lines on standard error; the pages of those who ask for its health and its metrics, over sockets of their own; and the input at whose
-//! end it stops. Nothing of this changes what is served.
+//! Its lines on standard error; the pages of those who ask for its health and its metrics, over
+//! sockets of their own; and the input at whose end it stops. Nothing of this changes what is
+//! served.
+//!
+//! Its tests are in tests/service.
 #![tactic(auto)]
 
 mod clock;

@@ -1,10 +1,11 @@
 //! The lines that a service says on standard error.
 //!
-//! Nothing that stands on the other end of standard error may hold a service up, so a line is said only if there is room for it at
-//! once. How many were left out is said in a later one.
+//! Nothing that stands on the other end of standard error may hold a service up, so a line is said
+//! only if there is room for it at once. How many were left out is said in a later one.
 
 ghost use Rattle.std.specs.Prelude.{◌≡◌, IfOk};
-ghost use Rattle.service_status.specs.Lines.{after_line, has_line, is_said, line_text, plain_text, quota_at};
+ghost use Rattle.service_status.specs.Lines.{after_line, has_line, is_said, line_text, plain_text};
+ghost use Rattle.service_status.specs.Lines.{quota_at};
 
 use crate::clock::unix_millis;
 use service_watch::{Entry, Event, LogFormat, ReplyHead, entry_line, moment_text};
@@ -129,7 +130,8 @@ impl Log {
         );
     }
 
-    /// Says what a turn of a connection came to: what it was refused, and the version that it published.
+    /// Says what a turn of a connection came to: what it was refused, and the version that it
+    /// published.
     pub fn note_turn(
         &mut self,
         rt: &HostRuntime,
@@ -168,7 +170,8 @@ impl Log {
         }
     }
 
-    // Says an entry, if there is memory for its line, and the quota and standard error have room for it.
+    // Says an entry, if there is memory for its line, and the quota and standard error have room
+    // for it.
     fn say_entry(&mut self, rt: &HostRuntime, now: u64, entry: &Entry) -> bool {
         let Some(time) = moment_text(unix_millis(rt)) else {
             return false;
@@ -193,7 +196,8 @@ impl Log {
     }
 }
 
-// Whether an entry is said: of connections nothing where it is quiet, and without a format only why one was closed.
+// Whether an entry is said: of connections nothing where it is quiet, and without a format only why
+// one was closed.
 fn says(quiet: bool, format: Option<LogFormat>, entry: &Entry) -> bool
     ensures { result ≡ is_said quiet format entry.now }
 {
@@ -243,8 +247,8 @@ fn plain_line(alloc: Global, what: &str, count: Option<u64>) -> Result<Vec<u8>, 
     Ok(line)
 }
 
-/// Writes a line on standard error, if there is room for it at once, and answers whether all of it went out. One that is longer than
-/// 4,096 bytes is cut off.
+/// Writes a line on standard error, if there is room for it at once, and answers whether all of it
+/// went out. One that is longer than 4,096 bytes is cut off.
 pub fn say_line(line: &str) -> bool {
     say_bytes(line.as_bytes())
 }

@@ -1,7 +1,8 @@
 //! The listener for those who ask how a service does.
 //!
-//! In each round of the loop it has its part after the turns of all connections, and that part is bounded: one accept, one read, one page
-//! and one write for each of its few places. Nothing of it changes what is served.
+//! In each round of the loop it has its part after the turns of all connections, and that part is
+//! bounded: one accept, one read, one page and one write for each of its few places. Nothing of it
+//! changes what is served.
 
 ghost use Rattle.std.specs.Prelude.{◌≡◌, None, IfOk, length, replicate};
 
@@ -151,7 +152,8 @@ impl Status {
         self.acceptable && self.accepts_from <= now
     }
 
-    /// Reads from each once, and closes those that are over. Answers whether one of them wants a response.
+    /// Reads from each once, and closes those that are over. Answers whether one of them wants a
+    /// response.
     pub fn read_all(&mut self, now: u64) -> bool {
         let mut wanted = false;
         for place in 0..VISITORS {
@@ -160,7 +162,8 @@ impl Status {
         wanted
     }
 
-    // Reads once from the one at a place, if there is one, and closes it if it is over. Answers whether it wants a response.
+    // Reads once from the one at a place, if there is one, and closes it if it is over. Answers
+    // whether it wants a response.
     fn read_at(&mut self, place: usize, now: u64) -> bool {
         if place >= VISITORS {
             return false;

@@ -23,8 +23,8 @@ pub enum Phase {
 }
 
 impl Phase {
-    /// The phase after the input ended at a moment, with so many milliseconds for what was begun. The time of a service that stops
-    /// already is not made longer.
+    /// The phase after the input ended at a moment, with so many milliseconds for what was begun.
+    /// The time of a service that stops already is not made longer.
     pub fn stopped(self, now: u64, grace: u64) -> Phase
         ensures { result ≡ stopping_from now grace self }
     {

@@ -28,8 +28,8 @@ scheme_offset scheme = cond (scheme == 1) 1 0
 abbrev pub refusal_slot : ℕ → ℕ
 refusal_slot code = cond (nat_le code 14) (29 + code) 44
 
--- where replies of a kind are counted, by the first byte of their payload: Welcome, a hint's parts and answers by scheme, Delta, Stale,
--- Done, NoDelta, Changes, refusals by code
+-- where replies of a kind are counted, by the first byte of their payload: Welcome, a hint's parts
+-- and answers by scheme, Delta, Stale, Done, NoDelta, Changes, refusals by code
 abbrev pub reply_slot : ℕ → ℕ → ℕ
 reply_slot kind first =
     cond (kind == 0x82) 21 (cond (kind == 0x83) (22 + scheme_offset first) (cond (kind == 0x84) 24

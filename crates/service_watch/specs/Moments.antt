@@ -9,8 +9,8 @@ month_digits a b =
     (cond (a == 117 && b == 108) (codes "07") (cond (a == 117 && b == 103) (codes "08") (cond (a == 101 && b == 112) (codes "09")
     (cond (a == 99 && b == 116) (codes "10") (cond (a == 111 && b == 118) (codes "11") (codes "12")))))))))))
 
--- a moment as RFC 3339 writes it, `1994-11-06T08:49:37.123Z`, from HTTP's text of its second, `Sun, 06 Nov 1994 08:49:37 GMT`, and the
--- milliseconds of that second
+-- a moment as RFC 3339 writes it, `1994-11-06T08:49:37.123Z`, from HTTP's text of its second, `Sun,
+-- 06 Nov 1994 08:49:37 GMT`, and the milliseconds of that second
 abbrev pub rfc3339_text : List ℕ → ℕ → List ℕ
 rfc3339_text date millis =
     slice_index date 12 ∷ slice_index date 13 ∷ slice_index date 14 ∷ slice_index date 15 ∷ 45

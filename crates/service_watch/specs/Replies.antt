@@ -6,6 +6,7 @@ use Rattle.service_watch.specs.declared.replies.ReplyHead.{ReplyHead}
 abbrev pub first_payload_byte : List ℕ → ℕ
 first_payload_byte bytes = cond (nat_lt 5 (length bytes)) (slice_index bytes 5) 0
 
--- the kind of a reply and the first byte of its payload; none where it has not the five bytes before a payload
+-- the kind of a reply and the first byte of its payload; none where it has not the five bytes
+-- before a payload
 abbrev pub reply_head : List ℕ → Option ReplyHead
 reply_head bytes = cond (nat_lt (length bytes) 5) None (Some (record { kind = slice_index bytes 4; first = first_payload_byte bytes }))

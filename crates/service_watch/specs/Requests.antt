@@ -46,7 +46,8 @@ response_text page content =
     codes "HTTP/1.1 " ++ (status_line page ++ (codes "\r\nContent-Type: " ++ (content_type page ++ (codes "\r\n" ++ (allow_field page
     ++ (codes "Content-Length: " ++ (decimal (length content) ++ (codes "\r\nConnection: close\r\n\r\n" ++ content))))))))
 
--- with what a draft ends, by the word that names it: the publication alone, or the last session that edited it, too
+-- with what a draft ends, by the word that names it: the publication alone, or the last session
+-- that edited it, too
 unfoldable pub draft_life_name : DraftLife → List ℕ
 draft_life_name Publication = codes "publication"
 draft_life_name Session = codes "session"

@@ -7,7 +7,8 @@ use Rattle.service_watch.specs.declared.scans.FrameScan.{FrameScan}
 abbrev pub at_start : FrameScan
 at_start = record { came = 0; len = 0; kind = 0 }
 
--- the first four bytes of a frame are the length of its payload, the lowest first, and the fifth is its kind
+-- the first four bytes of a frame are the length of its payload, the lowest first, and the fifth is
+-- its kind
 abbrev pub with_byte : FrameScan → ℕ → FrameScan
 with_byte s b = record {
   came = min (s.came + 1) (2 ^ 64 - 1);

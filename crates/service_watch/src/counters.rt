@@ -1,7 +1,8 @@
 //! Counts of what happened.
 
 ghost use Rattle.std.specs.Prelude.{◌≡◌, ◌+◌, ◌++◌, ◌∷◌, ◌<◌, [], List, slice_index, slice_set};
-ghost use Rattle.service_watch.specs.Counts.{Amount, IsTally, cause_slot, frame_slot, refusal_slot, reply_slot, saturating, scheme_offset, slot_of};
+ghost use Rattle.service_watch.specs.Counts.{Amount, IsTally, cause_slot, frame_slot, refusal_slot};
+ghost use Rattle.service_watch.specs.Counts.{reply_slot, saturating, scheme_offset, slot_of};
 
 /// How many things are counted apart.
 pub const SLOTS: usize = 48;
@@ -34,7 +35,8 @@ pub enum Counted {
     Closed(Cause),
     /// A frame of this kind came.
     Frame(u8),
-    /// A reply of this kind was made, whose payload begins with this byte: an answer's scheme, a refusal's code.
+    /// A reply of this kind was made, whose payload begins with this byte: an answer's scheme, a
+    /// refusal's code.
     Reply(u8, u8),
     /// So many bytes were read.
     BytesIn,
@@ -42,7 +44,8 @@ pub enum Counted {
     BytesOut,
 }
 
-/// How often each thing happened, or how much of it. A count that a word can't say stays at the most that it can.
+/// How often each thing happened, or how much of it. A count that a word can't say stays at the
+/// most that it can.
 #[derive(Clone, Copy)]
 pub struct Counters {
     counts: [u64; SLOTS],

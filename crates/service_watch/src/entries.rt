@@ -1,7 +1,9 @@
 //! The lines of a log.
 
 ghost use Rattle.std.specs.Prelude.{◌≡◌, ◌++◌, IfOk, OnOk, option_copied};
-ghost use Rattle.service_watch.specs.Entries.{entry_text, event_name, head_text, is_warning, level_name, number_field, peer_field, tail_text, text_field};
+ghost use Rattle.service_watch.specs.Entries.{entry_text, event_name, head_text, is_warning};
+ghost use Rattle.service_watch.specs.Entries.{level_name, number_field, peer_field, tail_text};
+ghost use Rattle.service_watch.specs.Entries.{text_field};
 
 use std::alloc::{AllocError, Global};
 use std::net::SocketAddr;

@@ -1,20 +1,22 @@
 //! How long things took.
 
-ghost use Rattle.std.specs.Prelude.{◌≡◌, ◌+◌, ◌++◌, ◌∷◌, ◌<◌, ◌≤◌, [], ℕ, List, count_by, length, sum, take, slice_index, slice_set};
+ghost use Rattle.std.specs.Prelude.{◌≡◌, ◌+◌, ◌++◌, ◌∷◌, ◌<◌, ◌≤◌, [], ℕ, List, count_by, length};
+ghost use Rattle.std.specs.Prelude.{sum, take, slice_index, slice_set};
 ghost use Rattle.service_watch.specs.Counts.{saturating};
 ghost use Rattle.service_watch.specs.Durations.{IsSpread, bin_of, is_below};
 
 /// How many bounds there are.
 pub const BOUND_COUNT: usize = 12;
 
-/// The bounds of the bins in microseconds: a bin has what took no more than its bound, and more than that before.
+/// The bounds of the bins in microseconds: a bin has what took no more than its bound, and more
+/// than that before.
 const BOUNDS: [u64; BOUND_COUNT] = [
     1_000, 2_500, 5_000, 10_000, 25_000, 50_000, 100_000, 250_000, 500_000, 1_000_000, 2_500_000,
     10_000_000,
 ];
 
-/// How many times were in each bin, the last one for those past all bounds, and what they come to. What a word can't say stays at the
-/// most that it can.
+/// How many times were in each bin, the last one for those past all bounds, and what they come to.
+/// What a word can't say stays at the most that it can.
 #[derive(Clone, Copy)]
 pub struct Histogram {
     bins: [u64; 13],
@@ -44,7 +46,8 @@ impl Histogram {
         self.sum = self.sum.saturating_add(micros);
     }
 
-    /// How many took no more than the bound of a number, or, past the last bound, how many there were.
+    /// How many took no more than the bound of a number, or, past the last bound, how many there
+    /// were.
     pub fn at_most(&self, bound: usize) -> u64
         requires { bound ≤ 12 }
         ensures { result ≡ saturating (sum (take (bound + 1) self.now.bins)) }

@@ -1,4 +1,7 @@
-//! What operators see of a service, as functions of values: the lines of its log, its counts, and what a request over HTTP gets.
+//! What operators see of a service, as functions of values: the lines of its log, its counts, and
+//! what a request over HTTP gets.
+//!
+//! Its tests are in tests/service.
 #![tactic(auto)]
 
 mod counters;

@@ -7,8 +7,8 @@ ghost use Rattle.service_watch.specs.Moments.{month_digits, rfc3339_text};
 
 use httpdate::HttpDate;
 
-/// The text of a moment so many milliseconds after 1970 began in UTC, as RFC 3339 has it: `2026-11-27T19:40:00.123Z`. None from the
-/// year 10000 on.
+/// The text of a moment so many milliseconds after 1970 began in UTC, as RFC 3339 has it:
+/// `2026-11-27T19:40:00.123Z`. None from the year 10000 on.
 pub fn moment_text(millis: u64) -> Option<[u8; 24]>
     ensures text { IfSome result (λ text. (date : Date) × (unix_secs date ≡ millis / 1000)
         × (text ≡ rfc3339_text (date_text date) (millis % 1000))) }

@@ -2,7 +2,8 @@
 
 ghost use Rattle.std.specs.Prelude.{◌≡◌, ◌≤◌, ℕ, List, length, IfOk, IfNone, Some, string_bytes};
 ghost use Rattle.httparse.specs.Grammar.{HasNoRequest, MayBecomeRequest, ReadsRequest, RequestHead};
-ghost use Rattle.service_watch.specs.Requests.{allow_field, content_type, health_text, if_got, page_for, page_when, response_text, status_line};
+ghost use Rattle.service_watch.specs.Requests.{allow_field, content_type, health_text, if_got};
+ghost use Rattle.service_watch.specs.Requests.{page_for, page_when, response_text, status_line};
 
 use crate::draft_life::DraftLife;
 use httparse::Status;
@@ -125,12 +126,17 @@ pub fn response(alloc: Global, page: Page, content: &str) -> Result<String, Allo
     let allow = page.allows();
     let len = content.len();
     format!(in alloc;
-        "HTTP/1.1 {status}\r\nContent-Type: {kind}\r\n{allow}Content-Length: {len}\r\nConnection: close\r\n\r\n{content}"
+        "HTTP/1.1 {status}\r\n\
+            Content-Type: {kind}\r\n\
+            {allow}Content-Length: {len}\r\n\
+            Connection: close\r\n\
+            \r\n\
+            {content}"
     )
 }
 
-/// The content of `/health`: the version that is served, how many records it has, and with what a draft ends. That of a service
-/// which stops is the same.
+/// The content of `/health`: the version that is served, how many records it has, and with what a
+/// draft ends. That of a service which stops is the same.
 ///
 /// # Errors
 ///

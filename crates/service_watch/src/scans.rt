@@ -2,7 +2,8 @@
 
 ghost use Rattle.std.specs.Prelude.{◌≡◌, ◌++◌, List};
 ghost use Rattle.service_watch.specs.Counts.{Amount, IsTally};
-ghost use Rattle.service_watch.specs.Scans.{after_byte, ended_kind, frame_of, frames_in, scan_after};
+ghost use Rattle.service_watch.specs.Scans.{after_byte, ended_kind, frame_of, frames_in};
+ghost use Rattle.service_watch.specs.Scans.{scan_after};
 
 use crate::counters::{Counted, Counters};
 

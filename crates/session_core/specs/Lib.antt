@@ -6,6 +6,6 @@ pub use Rattle.client_core.specs.Calls
 pub use Rattle.client_core.specs.Replies
 pub use Rattle.client_core.specs.Feeding
 pub use Rattle.client_core.specs.Endings
-pub use Rattle.session_engines.specs.Prefixes
-pub use Rattle.session_engines.specs.Conversing
+pub use Rattle.blocking_io.specs.Prefixes
+pub use Rattle.blocking_io.specs.Conversing
 pub use Rattle.once_session.specs.Outputs

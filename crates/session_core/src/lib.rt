@@ -1,16 +1,17 @@
-//! Sessions, all in one place: a server of sessions over one store, a client, and the engines that run both over a
-//! reader and a writer. Who uses the library begins here.
+//! Sessions, all in one place: a server of sessions over one store, a client, and the engines that
+//! run both over a reader and a writer. Who uses the library begins here.
 //!
-//! [`ServerCore`] and [`ClientCore`] know no connection: bytes go in by `feed`, in any pieces, and bytes come out.
-//! [`serve`] and [`converse`] run them over a reader and a writer, and [`once`] serves one database over one stream.
-//! A [`Store`] is opened from a [`Snapshot`], which is made of a [`Header`] and records, or read by [`read_snapshot`], and
-//! [`write_snapshot`] writes it back. [`Lanes`] is the kernel to use, [`Plain`] the slow one that it is compared with.
+//! [`ServerCore`] and [`ClientCore`] know no connection: bytes go in by `feed`, in any pieces, and
+//! bytes come out. [`serve`] and [`converse`] run them over a reader and a writer, and [`once`]
+//! serves one database over one stream. A [`Store`] is opened from a [`Snapshot`], which is made of
+//! a [`Header`] and records, or read by [`read_snapshot`], and [`write_snapshot`] writes it back.
+//! [`Lanes`] is the kernel to use, [`Plain`] the slow one that it is compared with.
 //!
 //! Every type that a call takes or answers is here, so nothing else needs to be imported.
 //!
-//! A whole session by hand: a publisher's store, a session, a client that is let in, gets its hint, and retrieves
-//! a record without the server learning which. The test `tests::a_record_is_retrieved` is this code, over both kernels
-//! and by both schemes.
+//! A whole session by hand: a publisher's store, a session, a client that is let in, gets its hint,
+//! and retrieves a record without the server learning which. The test
+//! `tests::a_record_is_retrieved` is this code, over both kernels and by both schemes.
 //!
 //! ```
 //! let store = Store::open(alloc, Lanes, snapshot)?;
@@ -24,7 +25,8 @@
 //! let sent = client.sync(Scheme::Double)?;
 //! exchange(alloc, &mut server, &mut client, &sent)?; // Event::Synced(Scheme::Double, 1)
 //! let sent = client.ask(1)?;
-//! exchange(alloc, &mut server, &mut client, &sent)?; // Event::Retrieved { index: 1, version: 1, bytes }
+//! // Event::Retrieved { index: 1, version: 1, bytes }
+//! exchange(alloc, &mut server, &mut client, &sent)?;
 //! server.close_session(7);
 //! ```
 //!
@@ -44,8 +46,11 @@
 //! ```
 //!
 //! Its test is in `tests`.
+//!
+//! Its tests are in tests/long/session_core.
 #![tactic(auto)]
 
+pub use blocking_io::{ConverseFault, Ending, ServeFault, converse, serve};
 pub use client_core::{
     CallFault, ClientCore, ClientFault, Event, Fed, Hint, SavedClient, Scheme, ServerInfo,
 };
@@ -56,7 +61,6 @@ pub use matrix_u32::{Kernel, Matrix, Plain};
 pub use once_session::{OnceFault, once};
 pub use pir_schemes::{Plan, answer_count, hint_len, is_certain, query_count};
 pub use server_core::{FeedError, ServerCore, SessionError, Standing};
-pub use session_engines::{ConverseFault, Ending, ServeFault, converse, serve};
 pub use snapshot_file::{
     Header, MigrateError, Snapshot, SnapshotFault, WidenError, WriteFault, migrate, read_snapshot,
     read_snapshot_and_digest, snapshot_digest, widen, write_snapshot_bytes,

@@ -82,7 +82,8 @@ same_entry a b i j wide inside same =
     let here : j < a.cols = omega arith in
     sym (row_index a i j here) ∙ ap (λ xs. slice_index xs j) same ∙ row_index b i j inside
 
--- a matrix into which rows of another were written, from row `start` to row n, and whose rows before them are as they were
+-- a matrix into which rows of another were written, from row `start` to row n, and whose rows
+-- before them are as they were
 pub record HasRowsPut (old a : WordMatrix) (start n : ℕ) (m : WordMatrix) : Type 0 where
   pub rows : m.rows ≡ old.rows
   pub cols : m.cols ≡ old.cols

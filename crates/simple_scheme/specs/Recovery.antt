@@ -13,7 +13,8 @@ abbrev pub GivesBytes : Shape → List ℕ → Result (Vec ℕ Global) RecoverEr
 GivesBytes l digits outcome =
     MatchResult outcome (λ bytes. FitsRecord l digits × (bytes.items ≡ record_bytes l digits)) (λ e. (e ≡ BadDigits) × (¬ FitsRecord l digits))
 
--- the bytes that the digits read write; or another number of words, a bit past the record's last byte, no memory
+-- the bytes that the digits read write; or another number of words, a bit past the record's last
+-- byte, no memory
 abbrev pub RecordFrom : Shape → ℕ → List ℕ → List ℕ → Result (Vec ℕ Global) RecoverError → Type 0
 RecordFrom l count answer digits outcome =
     MatchResult outcome

@@ -9,11 +9,12 @@ use digit_pack::DigitStore;
 use matrix_u32::{Kernel, Matrix};
 use std::alloc::{AllocError, Global};
 
-// How many rows of digits are multiplied at a time: they and their rows of the hint stay in a near cache while
-// all rows of the public matrix pass.
+// How many rows of digits are multiplied at a time: they and their rows of the hint stay in a near
+// cache while all rows of the public matrix pass.
 const BLOCK: usize = 64;
 
-/// Who makes a hint calls one of these after some rows of it, again and again. No hint is another for it.
+/// Who makes a hint calls one of these after some rows of it, again and again. No hint is another
+/// for it.
 pub trait HintWatcher {
     /// So many rows of the hint are made, of so many in all.
     fn see(&mut self, made: usize, rows: usize);
@@ -27,11 +28,12 @@ impl HintWatcher for Unwatched {
     fn see(&mut self, _made: usize, _rows: usize) {}
 }
 
-/// The hint of a matrix of digits: the digits times the public matrix `a1`, which has a row for each column
-/// of digits. It has as many rows as the digits, and as many columns as `a1`; a hint of at most 33,554,432
-/// words is a condition, so that only memory can be wanting.
+/// The hint of a matrix of digits: the digits times the public matrix `a1`, which has a row for
+/// each column of digits. It has as many rows as the digits, and as many columns as `a1`; a hint of
+/// at most 33,554,432 words is a condition, so that only memory can be wanting.
 ///
-/// The digits are read once each, some rows at a time, and these rows are given back before the next are read.
+/// The digits are read once each, some rows at a time, and these rows are given back before the
+/// next are read.
 pub fn setup<K: Kernel, S: DigitStore>(
     alloc: Global,
     kernel: K,
@@ -72,7 +74,8 @@ pub fn setup_watched<K: Kernel, S: DigitStore, W: HintWatcher>(
     Ok(hint)
 }
 
-// Writes `count` rows of the product into the hint, from `start` on, and leaves the rows before them.
+// Writes `count` rows of the product into the hint, from `start` on, and leaves the rows before
+// them.
 fn put_rows<K: Kernel, S: DigitStore>(
     alloc: Global,
     kernel: K,

@@ -1,10 +1,11 @@
-//! Laws of SimplePIR, over the definitions alone. A caller that calls one of these functions has its law at
-//! hand in its proof; the call costs nothing.
+//! Laws of SimplePIR, over the definitions alone. A caller that calls one of these functions has
+//! its law at hand in its proof; the call costs nothing.
 
-ghost use Rattle.simple_scheme.specs.Laws.{QuietSimpleRetrievalReadsTheRecord, SimpleCertainShapeIsQuiet};
+ghost use Rattle.simple_scheme.specs.Laws.{QuietSimpleRetrievalReadsTheRecord};
+ghost use Rattle.simple_scheme.specs.Laws.{SimpleCertainShapeIsQuiet};
 
-/// Under the records' own hint, the answer to the query for a record reads as the record's digits, wherever
-/// the retrieval is quiet.
+/// Under the records' own hint, the answer to the query for a record reads as the record's digits,
+/// wherever the retrieval is quiet.
 pub fn quiet_retrieval_reads_the_record()
     ensures { QuietSimpleRetrievalReadsTheRecord }
 {

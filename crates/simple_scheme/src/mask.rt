@@ -1,10 +1,10 @@
 //! What hides a column or a row in an encryption.
 
 ghost use Rattle.std.specs.Prelude.{◌≡◌, ◌+◌, ◌^◌, ◌<◌, ◌≤◌, length, IfOk};
-ghost use Rattle.seed_expand.specs.Words.{words_from, rows_from};
+ghost use Rattle.seed_expand.specs.Words.{words_from, source_rows};
 ghost use Rattle.noise_table.specs.Noise.{noise_from};
 ghost use Rattle.regev_core.specs.Encryption.{cipher, with_noise};
-ghost use Rattle.simple_scheme.specs.Rooms.{HasSize};
+ghost use Rattle.simple_scheme.specs.Buffers.{HasSize};
 
 use matrix_u32::{Kernel, Matrix};
 use noise_table::fill_noise;
@@ -12,8 +12,8 @@ use seed_expand::{WordSource, expand_times, fill_words};
 use std::alloc::{AllocError, Global};
 use std::marker::Model;
 
-/// The secret of an encryption and its noise, with memory for a row of a public matrix. The memory is taken by sizes
-/// alone, and kept from one encryption to the next.
+/// The secret of an encryption and its noise, with memory for a row of a public matrix. The memory
+/// is taken by sizes alone, and kept from one encryption to the next.
 ///
 /// A contract sees the secret and the noise.
 #[derive(Drop)]
@@ -26,7 +26,7 @@ pub struct Mask {
 
 impl Model for Mask {
     ghost use Rattle.std.specs.Prelude.{◌≡◌, length};
-    ghost use Rattle.simple_scheme.specs.Rooms.{Masking};
+    ghost use Rattle.simple_scheme.specs.Buffers.{Masking};
 
     ghost Value = { Masking };
 
@@ -47,8 +47,8 @@ impl Mask {
         })
     }
 
-    /// Draws the secret from a stream of the seed, from a place on, and the noise from the stream after, from a
-    /// place on.
+    /// Draws the secret from a stream of the seed, from a place on, and the noise from the stream
+    /// after, from a place on.
     pub fn draw(&mut self, seed: &[u8; 32], stream: u64, secret_at: u64, noise_at: u64)
         requires { stream + 1 < 2 ^ 64 }
         ensures secret { self.new.secret ≡
@@ -61,8 +61,8 @@ impl Mask {
         draw_noise(seed, stream + 1, noise_at, &mut self.noise);
     }
 
-    /// Writes the encryption of the unit vector with its 1 at `place`, in digits of w bits, under a matrix of
-    /// the mask's size.
+    /// Writes the encryption of the unit vector with its 1 at `place`, in digits of w bits, under a
+    /// matrix of the mask's size.
     pub fn encrypt<K: Kernel>(&self, kernel: K, a: &Matrix, w: u32, place: usize, out: &mut [u32])
         requires width { (6 ≤ w) × (w ≤ 10) }
         requires place { place < a.now.rows }
@@ -73,8 +73,8 @@ impl Mask {
         regev_core::encrypt(kernel, a, &self.secret, &self.noise, place, w, out);
     }
 
-    /// Writes the same under the matrix whose words a source gives, row by row, as many as there are words. No more than
-    /// a row of it is held at any time.
+    /// Writes the same under the matrix whose words a source gives, row by row, as many as there
+    /// are words. No more than a row of it is held at any time.
     pub fn encrypt_under<K: Kernel>(
         &mut self,
         kernel: K,
@@ -87,7 +87,7 @@ impl Mask {
         requires place { place < length out.old }
         requires size { length self.old.noise ≡ length out.old }
         ensures words { out.new ≡
-            cipher w (rows_from source (length out.old) (length self.old.secret))
+            cipher w (source_rows source (length out.old) (length self.old.secret))
             self.old.secret self.old.noise place }
         ensures same { self.new ≡ self.old }
     {
@@ -95,8 +95,8 @@ impl Mask {
         regev_core::add_noise(&self.noise, place, w, out);
     }
 
-    /// Adds the noise to words, and delta at `place`: to the products of a matrix and the secret, which makes them the
-    /// encryption under that matrix.
+    /// Adds the noise to words, and delta at `place`: to the products of a matrix and the secret,
+    /// which makes them the encryption under that matrix.
     pub(crate) fn cover(&self, w: u32, place: usize, out: &mut [u32])
         requires width { (6 ≤ w) × (w ≤ 10) }
         requires place { place < length out.old }

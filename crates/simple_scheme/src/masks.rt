@@ -3,7 +3,7 @@
 ghost use Rattle.std.specs.Prelude.{◌≡◌, ◌+◌, ◌^◌, ◌<◌, ◌≤◌, length, IfOk};
 ghost use Rattle.matrix_u32.specs.Matrix.{column};
 ghost use Rattle.digit_pack.specs.Layout.{digit_cols};
-ghost use Rattle.seed_expand.specs.Words.{rows_from};
+ghost use Rattle.seed_expand.specs.Words.{source_rows};
 ghost use Rattle.simple_scheme.specs.Masks.{secrets_of, masks_of, row_products};
 
 use crate::mask::draw_words;
@@ -13,11 +13,12 @@ use seed_expand::{WordSource, fill_words};
 use std::alloc::{AllocError, Global};
 use std::marker::Model;
 
-/// The memory that masks are made in. It is taken by sizes alone: no number or seed is known where it is refused.
+/// The memory that masks are made in. It is taken by sizes alone: no number or seed is known where
+/// it is refused.
 ///
 /// A contract sees it as these sizes.
 #[derive(Drop)]
-pub struct MaskRoom {
+pub struct MaskBuffers {
     // A row for each retrieval.
     secrets: Matrix,
     // As long as a secret.
@@ -26,7 +27,7 @@ pub struct MaskRoom {
     products: Matrix,
 }
 
-impl Model for MaskRoom {
+impl Model for MaskBuffers {
     ghost use Rattle.std.specs.Prelude.{◌≡◌, length};
     ghost use Rattle.simple_scheme.specs.Masks.{MaskSizes};
 
@@ -42,15 +43,15 @@ impl Model for MaskRoom {
         (r.products.cols ≡ r.secrets.rows) };
 }
 
-impl MaskRoom {
-    /// Memory for the masks of `count` retrievals on a layout, under a public matrix of `dimension` columns. Both are at
-    /// most 1024, so that only memory can be wanting.
+impl MaskBuffers {
+    /// Memory for the masks of `count` retrievals on a layout, under a public matrix of `dimension`
+    /// columns. Both are at most 1024, so that only memory can be wanting.
     pub fn new(
         alloc: Global,
         layout: &Layout,
         dimension: usize,
         count: usize,
-    ) -> Result<MaskRoom, AllocError>
+    ) -> Result<MaskBuffers, AllocError>
         requires dimension { dimension ≤ 1024 }
         requires count { count ≤ 1024 }
         ensures { IfOk result (λ room. room ≡ record {
@@ -65,15 +66,16 @@ impl MaskRoom {
         let Ok(products) = Matrix::zeros(alloc, layout.cols(), count) else {
             return Err(AllocError);
         };
-        Ok(MaskRoom {
+        Ok(MaskBuffers {
             secrets,
             row: vec![in alloc; 0; dimension]?,
             products,
         })
     }
 
-    /// The masks of the retrievals from number `first` on, under the public matrix whose words a source gives, row by row.
-    /// Each row is made once for all of them, and no more than one is held at any time. No memory is taken.
+    /// The masks of the retrievals from number `first` on, under the public matrix whose words a
+    /// source gives, row by row. Each row is made once for all of them, and no more than one is
+    /// held at any time. No memory is taken.
     pub fn fill<K: Kernel>(
         self,
         kernel: K,
@@ -83,11 +85,11 @@ impl MaskRoom {
     ) -> QueryMasks
         requires numbers { first + self.count ≤ 2 ^ 62 }
         ensures masks { result ≡
-            masks_of (rows_from source self.rows self.dimension) seed.now first self.count }
+            masks_of (source_rows source self.rows self.dimension) seed.now first self.count }
         ensures rows { result.rows ≡ self.rows }
         ensures count { result.cols ≡ self.count }
     {
-        let MaskRoom {
+        let MaskBuffers {
             mut secrets,
             mut row,
             mut products,
@@ -98,8 +100,9 @@ impl MaskRoom {
     }
 }
 
-/// The masks of several retrievals: for each row of the public matrix its product with each of their secrets. With its noise
-/// and its record's column one column of them is the query of its retrieval (`QueryRoom::fill_masked`).
+/// The masks of several retrievals: for each row of the public matrix its product with each of
+/// their secrets. With its noise and its record's column one column of them is the query of its
+/// retrieval (`QueryBuffers::fill_masked`).
 ///
 /// A contract sees them as the matrix of these products.
 #[derive(Drop)]
@@ -138,8 +141,8 @@ fn draw_secrets(seed: &[u8; 32], first: u64, secrets: &mut Matrix)
     }
 }
 
-// Writes the products of each row of the matrix whose words a source gives with each secret. The rows are made one after
-// another in the memory of one, which is `row`.
+// Writes the products of each row of the matrix whose words a source gives with each secret. The
+// rows are made one after another in the memory of one, which is `row`.
 fn put_products<K: Kernel>(
     kernel: K,
     mut source: WordSource,
@@ -150,7 +153,7 @@ fn put_products<K: Kernel>(
     requires row { length row.old ≡ secrets.now.cols }
     requires cols { products.old.cols ≡ secrets.now.rows }
     ensures { products.new ≡
-        row_products (rows_from source products.old.rows secrets.now.cols) secrets.now }
+        row_products (source_rows source products.old.rows secrets.now.cols) secrets.now }
 {
     // Called for its bound: a place below 2^68 stays where it is when there are no rows.
     source.place();

@@ -3,9 +3,9 @@
 ghost use Rattle.std.specs.Prelude.{◌≡◌, ℕ, ◌+◌, ◌^◌, ◌<◌, IfOk, length};
 ghost use Rattle.matrix_u32.specs.Matrix.{WordMatrix};
 ghost use Rattle.digit_pack.specs.Layout.{digit_cols, column_of};
-ghost use Rattle.seed_expand.specs.Words.{rows_from};
+ghost use Rattle.seed_expand.specs.Words.{source_rows};
 ghost use Rattle.simple_scheme.specs.Simple.{secret, query_noise, simple_query, simple_answer};
-ghost use Rattle.simple_scheme.specs.Rooms.{HasSize};
+ghost use Rattle.simple_scheme.specs.Buffers.{HasSize};
 ghost use Rattle.simple_scheme.specs.Masks.{masks_of};
 
 use crate::mask::Mask;
@@ -16,23 +16,23 @@ use seed_expand::WordSource;
 use std::alloc::{AllocError, Global};
 use std::marker::Model;
 
-/// The memory that a query is made in. It is taken by sizes alone: no index, number or seed is known where it
-/// is refused.
+/// The memory that a query is made in. It is taken by sizes alone: no index, number or seed is
+/// known where it is refused.
 ///
 /// A contract sees it as these sizes.
 #[derive(Drop)]
-pub struct QueryRoom {
+pub struct QueryBuffers {
     layout: Layout,
     mask: Mask,
     words: Vec<u32>,
 }
 
-impl Model for QueryRoom {
+impl Model for QueryBuffers {
     ghost use Rattle.std.specs.Prelude.{◌≡◌, length};
     ghost use Rattle.digit_pack.specs.Layout.{digit_cols, column_of};
-    ghost use Rattle.simple_scheme.specs.Rooms.{RoomSizes};
+    ghost use Rattle.simple_scheme.specs.Buffers.{BufferSizes};
 
-    ghost Value = { RoomSizes };
+    ghost Value = { BufferSizes };
 
     ghost view = { λ r. record { layout = r.layout; dimension = length r.mask.secret } };
 
@@ -40,21 +40,21 @@ impl Model for QueryRoom {
         (length r.words.items ≡ digit_cols r.layout) };
 }
 
-impl QueryRoom {
+impl QueryBuffers {
     /// Memory for a query on a layout, under a public matrix of `dimension` columns.
-    pub fn new(alloc: Global, layout: &Layout, dimension: usize) -> Result<QueryRoom, AllocError>
+    pub fn new(alloc: Global, layout: &Layout, dimension: usize) -> Result<QueryBuffers, AllocError>
         ensures { IfOk result (λ room.
             room ≡ record { layout = layout.now; dimension = dimension }) }
     {
-        Ok(QueryRoom {
+        Ok(QueryBuffers {
             layout: *layout,
             mask: Mask::zeros(alloc, layout.cols(), dimension)?,
             words: vec![in alloc; 0; layout.cols()]?,
         })
     }
 
-    /// The query for record i, as [`query`] says it, under the public matrix whose words a source gives, row by row. The
-    /// matrix is never held as a whole. No memory is taken.
+    /// The query for record i, as [`query`] says it, under the public matrix whose words a source
+    /// gives, row by row. The matrix is never held as a whole. No memory is taken.
     pub fn fill<K: Kernel>(
         self,
         kernel: K,
@@ -66,9 +66,9 @@ impl QueryRoom {
         requires number { number < 2 ^ 62 }
         requires record { i < self.layout.count }
         ensures { result.items ≡ simple_query self.layout
-            (rows_from source (digit_cols self.layout) self.dimension) seed.now number i }
+            (source_rows source (digit_cols self.layout) self.dimension) seed.now number i }
     {
-        let QueryRoom {
+        let QueryBuffers {
             layout,
             mut mask,
             words: mut out,
@@ -79,8 +79,9 @@ impl QueryRoom {
         out
     }
 
-    /// The query for record i of masks: of retrieval c of them, whose number is `number`. Under the public matrix that they were
-    /// made of, and with their seed, this is the query as [`query`] says it. No memory is taken.
+    /// The query for record i of masks: of retrieval c of them, whose number is `number`. Under the
+    /// public matrix that they were made of, and with their seed, this is the query as [`query`]
+    /// says it. No memory is taken.
     pub fn fill_masked(
         self,
         masks: &QueryMasks,
@@ -97,7 +98,7 @@ impl QueryRoom {
             masks.now ≡ masks_of a1 seed.now first count → number ≡ first + c →
             result.items ≡ simple_query self.layout a1 seed.now number i }
     {
-        let QueryRoom {
+        let QueryBuffers {
             layout,
             mut mask,
             words: mut out,
@@ -130,8 +131,9 @@ pub fn put_query<K: Kernel>(
     mask.encrypt(kernel, a1, layout.width(), column, out);
 }
 
-/// Writes the query for record i under the public matrix whose words a source gives, row by row, one for each column of
-/// the layout; a row has as many words as the mask's secret. What the mask held is lost.
+/// Writes the query for record i under the public matrix whose words a source gives, row by row,
+/// one for each column of the layout; a row has as many words as the mask's secret. What the mask
+/// held is lost.
 #[tactic(auto, unfolding(crate::specs::Simple::simple_query))]
 pub fn put_query_under<K: Kernel>(
     kernel: K,
@@ -148,14 +150,15 @@ pub fn put_query_under<K: Kernel>(
     requires mask { length mask.old.noise ≡ digit_cols layout.now }
     requires room { length out.old ≡ digit_cols layout.now }
     ensures { out.new ≡ simple_query layout.now
-        (rows_from source (digit_cols layout.now) (length mask.old.secret)) seed.now number i }
+        (source_rows source (digit_cols layout.now) (length mask.old.secret)) seed.now number i }
 {
     let column = draw_for(seed, number, layout, i, mask);
     mask.encrypt_under(kernel, source, layout.width(), column, out);
 }
 
-/// Writes the query for record i of masks: of retrieval c of them, whose number is `number`. Under the public matrix that the masks
-/// were made of, and with their seed, this is the query as [`query`] says it. What the mask held is lost.
+/// Writes the query for record i of masks: of retrieval c of them, whose number is `number`. Under
+/// the public matrix that the masks were made of, and with their seed, this is the query as
+/// [`query`] says it. What the mask held is lost.
 pub fn put_masked_query(
     masks: &QueryMasks,
     c: usize,
@@ -196,8 +199,8 @@ fn draw_for(seed: &[u8; 32], number: u64, layout: &Layout, i: usize, mask: &mut 
     column
 }
 
-/// The query for record i: the encryption of its column under the public matrix `a1`, which has a row for
-/// each column of the layout. `number` says which retrieval of the client's seed it is.
+/// The query for record i: the encryption of its column under the public matrix `a1`, which has a
+/// row for each column of the layout. `number` says which retrieval of the client's seed it is.
 pub fn query<K: Kernel>(
     alloc: Global,
     kernel: K,
@@ -218,8 +221,8 @@ pub fn query<K: Kernel>(
     Ok(out)
 }
 
-/// The answer to the words of a query: the digits times the query, one word for each digit row. Its memory is
-/// taken by the number of rows alone.
+/// The answer to the words of a query: the digits times the query, one word for each digit row. Its
+/// memory is taken by the number of rows alone.
 #[tactic(auto, unfolding(crate::specs::Simple::simple_answer))]
 pub fn answer<K: Kernel, S: DigitStore>(
     alloc: Global,

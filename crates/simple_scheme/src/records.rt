@@ -6,7 +6,8 @@ ghost use Rattle.matrix_u32.specs.Matrix.{row};
 ghost use Rattle.regev_core.specs.Encryption.{nearest, stripped};
 ghost use Rattle.digit_pack.specs.Layout.{digit_rows, digits_per_record};
 ghost use Rattle.simple_scheme.specs.Simple.{simple_reading};
-ghost use Rattle.simple_scheme.specs.Recovery.{GivesBytes, SimpleReadsRecord, SimpleGivesQuietRecord};
+ghost use Rattle.simple_scheme.specs.Recovery.{GivesBytes, SimpleReadsRecord};
+ghost use Rattle.simple_scheme.specs.Recovery.{SimpleGivesQuietRecord};
 
 use crate::laws;
 use digit_pack::{Layout, unpack};
@@ -66,8 +67,8 @@ fn read_all<K: Kernel>(
     Ok(digits)
 }
 
-/// The record that digits write, in a buffer of its length: `BadDigits` exactly when they set a bit past the
-/// record's last byte, and never `Memory`.
+/// The record that digits write, in a buffer of its length: `BadDigits` exactly when they set a bit
+/// past the record's last byte, and never `Memory`.
 pub fn record_of_digits(
     layout: &Layout,
     digits: &[u32],
@@ -108,13 +109,13 @@ fn read_record<K: Kernel>(
     record_of_digits(layout, &digits, bytes)
 }
 
-/// The record that the answer to the query for record i gives, with the client's seed and the number of the
-/// retrieval.
+/// The record that the answer to the query for record i gives, with the client's seed and the
+/// number of the retrieval.
 ///
-/// `BadLength` exactly when the answer hasn't a word for each row; else `Memory`, or the bytes that the
-/// answer's reading writes, `BadDigits` exactly when the digits read set a bit past the record's last
-/// byte. Where the hint and the answer are those of some records and the retrieval is quiet, it is the
-/// record.
+/// `BadLength` exactly when the answer hasn't a word for each row; else `Memory`, or the bytes that
+/// the answer's reading writes, `BadDigits` exactly when the digits read set a bit past the
+/// record's last byte. Where the hint and the answer are those of some records and the retrieval is
+/// quiet, it is the record.
 pub fn recover<K: Kernel>(
     alloc: Global,
     kernel: K,
@@ -138,7 +139,8 @@ pub fn recover<K: Kernel>(
     record
 }
 
-/// The digits that words of an answer read as, from row `first` of the hint on: one for each place of `out`.
+/// The digits that words of an answer read as, from row `first` of the hint on: one for each place
+/// of `out`.
 pub fn read_digits<K: Kernel>(
     kernel: K,
     w: u32,

@@ -17,7 +17,8 @@ pub struct FrameEnd {
 }
 
 impl FrameEnd {
-    /// Takes more bytes. Whether the frame is whole then; none if it is longer than any, or bytes come after it.
+    /// Takes more bytes. Whether the frame is whole then; none if it is longer than any, or bytes
+    /// come after it.
     pub fn take(&mut self, piece: &[u8]) -> Option<bool> {
         self.note_len(piece);
         self.came = self.came.saturating_add(piece.len());

@@ -1,5 +1,5 @@
-//! The hint of the version known, held by the client: the one kept, read as a whole, or as a sync has moved or brought
-//! it.
+//! The hint of the version known, held by the client: the one kept, read as a whole, or as a sync
+//! has moved or brought it.
 
 use crate::counts::count;
 use crate::fault::RunFault;
@@ -58,7 +58,8 @@ impl<'a, R: FileSystem> ClientRun<'a, R> {
         }
     }
 
-    /// Writes the hint kept anew, as its changes have moved it. One that is damaged is of no more use.
+    /// Writes the hint kept anew, as its changes have moved it. One that is damaged is of no more
+    /// use.
     pub(crate) fn fold(&mut self) -> Result<(), RunFault> {
         let Some(kept) = &self.kept else {
             return Ok(());

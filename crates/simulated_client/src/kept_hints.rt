@@ -1,5 +1,5 @@
-//! A hint that a folder keeps, with the changes beside it that move it on: of a SimplePIR hint the rows of one record
-//! are read, and moved, when it is asked for.
+//! A hint that a folder keeps, with the changes beside it that move it on: of a SimplePIR hint the
+//! rows of one record are read, and moved, when it is asked for.
 
 ghost use Rattle.std.specs.Prelude.{◌≡◌, ◌≤◌, IsTrue};
 ghost use Rattle.digit_pack.specs.Layout.{digit_rows};
@@ -65,7 +65,8 @@ impl<'a, R: FileSystem> MovedHint<'a, R> {
         self.changes.moved_fields(self.file.head())
     }
 
-    /// The parts with the rows of a record, if the hint is one of SimplePIR and, moved, of the version known.
+    /// The parts with the rows of a record, if the hint is one of SimplePIR and, moved, of the
+    /// version known.
     pub fn parts_for(&self, now: &ServerInfo, index: u32) -> Option<PartSpan> {
         let head = KeptHead {
             fields: self.fields(),
@@ -74,12 +75,13 @@ impl<'a, R: FileSystem> MovedHint<'a, R> {
         parts_for(&head, now, index)
     }
 
-    /// The rows of a record, moved to the version known; the hint's other rows are zeros, or of no version.
+    /// The rows of a record, moved to the version known; the hint's other rows are zeros, or of no
+    /// version.
     ///
     /// # Errors
     ///
-    /// `Damaged` when the parts have other bytes than the head of the file says, or the changes are of no use; `Read`
-    /// when they can't be read; `Memory` when memory was refused.
+    /// `Damaged` when the parts have other bytes than the head of the file says, or the changes are
+    /// of no use; `Read` when they can't be read; `Memory` when memory was refused.
     pub fn rows(&self, now: &ServerInfo, span: PartSpan, index: u32) -> Result<Hint, HintError> {
         let rows = self.file.parts(span)?;
         if self.changes.is_empty() {
@@ -125,8 +127,8 @@ impl<'a, R: FileSystem> MovedHint<'a, R> {
         }
     }
 
-    /// The version since which it is asked which records have changed: that of the hint, if this is one of SimplePIR of
-    /// a wide store, and earlier than the one known.
+    /// The version since which it is asked which records have changed: that of the hint, if this is
+    /// one of SimplePIR of a wide store, and earlier than the one known.
     pub fn asked_since(&self, now: &ServerInfo) -> Option<u64> {
         let fields = self.fields();
         if fields.scheme != Scheme::Simple
@@ -138,8 +140,8 @@ impl<'a, R: FileSystem> MovedHint<'a, R> {
         Some(fields.version)
     }
 
-    /// Adds a block to the changes, if it leads to the version known. If another was published meanwhile, the next sync
-    /// says so.
+    /// Adds a block to the changes, if it leads to the version known. If another was published
+    /// meanwhile, the next sync says so.
     pub fn add(
         &mut self,
         folder: &Folder<'a, R>,

@@ -2,14 +2,16 @@
 
 use crate::fault::RunFault;
 use client_state::PartialFile;
-use frame_codec::{Frame, ReadFault, Reader, Taken};
+use frame_codec::{Frame, FrameRead, ReadFault, Reader};
 use safe_files::FileSystem;
 use std::alloc::Global;
 
-/// How many bytes stand before the words of a part: the frame's length, its kind, the scheme, the version and the part.
+/// How many bytes stand before the words of a part: the frame's length, its kind, the scheme, the
+/// version and the part.
 const HEAD_LEN: usize = 18;
 
-/// The kinds of the replies that a part's ask may get beside the part: Stale and Refused, and how many bytes they have.
+/// The kinds of the replies that a part's ask may get beside the part: Stale and Refused, and how
+/// many bytes they have.
 const OTHERS: [(u8, usize); 2] = [(0x86, 12), (0x8f, 1)];
 
 /// The frame of a wide store that these bytes are.
@@ -17,7 +19,7 @@ pub fn whole_frame(alloc: Global, reply: &[u8]) -> Result<Frame, RunFault> {
     let mut reader = Reader::new(alloc);
     match reader.feed_frame(true, reply) {
         Ok(
-            Taken {
+            FrameRead {
                 frame: Some(frame),
                 ..
             },
@@ -27,8 +29,8 @@ pub fn whole_frame(alloc: Global, reply: &[u8]) -> Result<Frame, RunFault> {
     }
 }
 
-/// The bytes of the next part, in the whole reply to its ask. None if the server has another version, or refuses it:
-/// whoever asks again gets the same again.
+/// The bytes of the next part, in the whole reply to its ask. None if the server has another
+/// version, or refuses it: whoever asks again gets the same again.
 pub fn part_in<'r, R: FileSystem>(
     partial: &PartialFile<'_, R>,
     reply: &'r [u8],

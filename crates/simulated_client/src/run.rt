@@ -30,7 +30,8 @@ pub struct ClientRun<'a, R: FileSystem> {
     // The record whose turn it is, and how many of its answers were stale.
     pub(crate) index: u32,
     pub(crate) stale_answers: u32,
-    // The hint kept, which the client doesn't hold: of SimplePIR's the rows of a record are read when it is asked for.
+    // The hint kept, which the client doesn't hold: of SimplePIR's the rows of a record are read
+    // when it is asked for.
     pub(crate) kept: Option<MovedHint<'a, R>>,
     state: State<'a, R>,
     // Where the reply that is awaited ends, and what came of one that the client doesn't take.
@@ -43,8 +44,9 @@ pub struct ClientRun<'a, R: FileSystem> {
 }
 
 impl<'a, R: FileSystem> ClientRun<'a, R> {
-    /// Begins a run over a store of a kind, and gives the greeting to send. The seed is one that no other run has. Of
-    /// the numbers wanted each is taken modulo the count of records known when its turn comes.
+    /// Begins a run over a store of a kind, and gives the greeting to send. The seed is one that no
+    /// other run has. Of the numbers wanted each is taken modulo the count of records known when
+    /// its turn comes.
     ///
     /// # Errors
     ///
@@ -84,8 +86,8 @@ impl<'a, R: FileSystem> ClientRun<'a, R> {
         Ok((run, greeting))
     }
 
-    /// Takes the next piece of the server's stream. One call at most is outstanding, so that a byte after a reply is a
-    /// fault.
+    /// Takes the next piece of the server's stream. One call at most is outstanding, so that a byte
+    /// after a reply is a fault.
     pub fn feed(&mut self, piece: &[u8]) -> RunStep {
         let step = match self.advance(piece) {
             Ok(step) => step,

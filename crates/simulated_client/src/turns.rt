@@ -1,5 +1,5 @@
-//! The turns of the records wanted: each is asked for over its rows of the hint kept, or once the hint of the version
-//! known is held.
+//! The turns of the records wanted: each is asked for over its rows of the hint kept, or once the
+//! hint of the version known is held.
 
 use crate::counts::count;
 use crate::fault::RunFault;
@@ -27,7 +27,8 @@ struct Rows {
 }
 
 impl<'a, R: FileSystem> ClientRun<'a, R> {
-    /// Opens the hint that is kept for the store. A server of an older version than one seen before is asked nothing.
+    /// Opens the hint that is kept for the store. A server of an older version than one seen before
+    /// is asked nothing.
     pub(crate) fn take_welcome(&mut self) -> Result<RunStep, RunFault> {
         let now = self.known()?;
         let other = match self.scheme {
@@ -78,8 +79,8 @@ impl<'a, R: FileSystem> ClientRun<'a, R> {
         self.attempt()
     }
 
-    // Drops the hint kept, if rows of it were damaged: at the end alone, so that all records are asked for in the same
-    // way.
+    // Drops the hint kept, if rows of it were damaged: at the end alone, so that all records are
+    // asked for in the same way.
     fn discard_damaged(&self, now: &ServerInfo) {
         if self.has_damaged_rows {
             // One that stays is found damaged again.
@@ -87,7 +88,8 @@ impl<'a, R: FileSystem> ClientRun<'a, R> {
         }
     }
 
-    /// Asks for the record once more, with the hint of the next version, unless its answers were stale too often.
+    /// Asks for the record once more, with the hint of the next version, unless its answers were
+    /// stale too often.
     pub(crate) fn attempt_again(&mut self, version: u64) -> Result<RunStep, RunFault> {
         if self.stale_answers >= STALE_ANSWERS {
             return Ok(RunStep::Ends(RunEnd::Stale(version)));
@@ -96,7 +98,8 @@ impl<'a, R: FileSystem> ClientRun<'a, R> {
         self.attempt()
     }
 
-    // Asks for the record: first, if the hint kept is to be moved to the version known, for what has changed.
+    // Asks for the record: first, if the hint kept is to be moved to the version known, for what
+    // has changed.
     fn attempt(&mut self) -> Result<RunStep, RunFault> {
         let now = self.known()?;
         let since = match &self.kept {
@@ -153,7 +156,8 @@ impl<'a, R: FileSystem> ClientRun<'a, R> {
         Ok(())
     }
 
-    // Asks for the record over its rows of the hint kept, if this serves; else once the hint is held.
+    // Asks for the record over its rows of the hint kept, if this serves; else once the hint is
+    // held.
     fn ask_over_rows(&mut self) -> Result<RunStep, RunFault> {
         if let Some(Rows { saved, are_sound }) = self.rows_kept()? {
             if self.client.resume(saved)? {
@@ -165,8 +169,8 @@ impl<'a, R: FileSystem> ClientRun<'a, R> {
         self.hold_hint()
     }
 
-    // The rows of the record in the hint kept, if that is one of SimplePIR and of the version known. Damaged rows are
-    // zeros.
+    // The rows of the record in the hint kept, if that is one of SimplePIR and of the version
+    // known. Damaged rows are zeros.
     fn rows_kept(&self) -> Result<Option<Rows>, RunFault> {
         let now = self.known()?;
         let Some(kept) = &self.kept else {

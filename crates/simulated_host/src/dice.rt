@@ -36,7 +36,7 @@ impl Dice {
     }
 
     /// All of so many, mostly; else some of them, and one at least.
-    pub fn part_of(&mut self, count: usize) -> usize {
+    pub fn some_of(&mut self, count: usize) -> usize {
         if self.one_in(4) {
             self.below(count).saturating_add(1)
         } else {

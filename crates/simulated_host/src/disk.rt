@@ -6,8 +6,8 @@ use crate::machine::{Machine, failed};
 use std::alloc::{AllocError, Global};
 use std::io;
 
-/// The disks of several machines, which are numbered from 0 on. What is asked of a machine that is not there does
-/// nothing.
+/// The disks of several machines, which are numbered from 0 on. What is asked of a machine that is
+/// not there does nothing.
 #[derive(Drop)]
 pub struct SimulatedDisk {
     machines: Vec<Machine>,
@@ -47,8 +47,9 @@ impl SimulatedDisk {
         }
     }
 
-    /// Cuts the power after so many more calls that change or sync something, in the midst of the next one. That one
-    /// and all later calls fail, until [`cut_power`](SimulatedDisk::cut_power) turns it on again.
+    /// Cuts the power after so many more calls that change or sync something, in the midst of the
+    /// next one. That one and all later calls fail, until [`cut_power`](SimulatedDisk::cut_power)
+    /// turns it on again.
     pub fn cut_after(&mut self, machine: usize, calls: Option<u32>) {
         if let Some(machine) = self.machines.get_mut(machine) {
             machine.cut_after(calls);
@@ -63,8 +64,8 @@ impl SimulatedDisk {
         }
     }
 
-    /// Cuts a machine's power, and turns it on again. Of what was not synced, some is lost, torn or kept. What was open
-    /// is dead.
+    /// Cuts a machine's power, and turns it on again. Of what was not synced, some is lost, torn or
+    /// kept. What was open is dead.
     ///
     /// # Errors
     ///

@@ -1,9 +1,11 @@
-//! What surrounds a process in a simulation, all of it decided by one seed: the disk of each machine, and the network
-//! between them.
+//! What surrounds a process in a simulation, all of it decided by one seed: the disk of each
+//! machine, and the network between them.
 //!
-//! A [`SimulatedDisk`] has several machines' files. A [`SimulatedFiles`] is what one machine sees of it: a
-//! `FileSystem`, on which the same code runs as on the host's. When a machine's power is cut, what was not synced is lost, torn or
-//! kept.
+//! A [`SimulatedDisk`] has several machines' files. A [`SimulatedFiles`] is what one machine sees
+//! of it: a `FileSystem`, on which the same code runs as on the host's. When a machine's power is
+//! cut, what was not synced is lost, torn or kept.
+//!
+//! Its tests are in tests/long/simulated_host.
 #![tactic(auto)]
 
 mod change;

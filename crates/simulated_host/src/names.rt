@@ -154,7 +154,8 @@ impl Names {
         Ok(())
     }
 
-    /// Does what a crash does: of each folder's changes the first ones come, often all and often none.
+    /// Does what a crash does: of each folder's changes the first ones come, often all and often
+    /// none.
     pub(crate) fn crash(&mut self, dice: &mut Dice) -> Result<(), AllocError> {
         for _ in 0..self.changes.len() {
             self.crash_folder(dice)?;

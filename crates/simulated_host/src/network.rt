@@ -66,7 +66,7 @@ impl Direction {
         if room == 0 {
             return Ok(Moved::Later);
         }
-        let count = dice.part_of(room);
+        let count = dice.some_of(room);
         for byte in bytes.iter().take(count) {
             self.bytes.push_back(*byte)?;
         }
@@ -83,7 +83,7 @@ impl Direction {
                 Moved::Later
             };
         }
-        let count = dice.part_of(most);
+        let count = dice.some_of(most);
         let mut taken = 0usize;
         for place in buffer.iter_mut().take(count) {
             let Some(byte) = self.bytes.pop_front() else {
@@ -140,7 +140,8 @@ pub struct Connection {
 }
 
 impl Connection {
-    // Something comes that is on its way, in one direction if there is any, else in the other. Whether anything did.
+    // Something comes that is on its way, in one direction if there is any, else in the other.
+    // Whether anything did.
     fn deliver(&mut self, dice: &mut Dice, first_up: bool) -> bool {
         let up = self.up.is_under_way();
         let down = self.down.is_under_way();
@@ -263,7 +264,8 @@ impl Network {
         }
     }
 
-    /// An end lets its connection go. If the other end has bytes to come, or goes on writing, that one finds it broken.
+    /// An end lets its connection go. If the other end has bytes to come, or goes on writing, that
+    /// one finds it broken.
     pub fn close(&mut self, end: End) {
         if let Some(connection) = self.find(end) {
             match end.side {
@@ -282,7 +284,8 @@ impl Network {
         self.forget_closed();
     }
 
-    /// Breaks the connections of a machine, whose power was cut or whose process was killed; its own ends are gone.
+    /// Breaks the connections of a machine, whose power was cut or whose process was killed; its
+    /// own ends are gone.
     pub fn break_all_of(&mut self, machine: usize) {
         for connection in self.connections.iter_mut() {
             if connection.client == machine {
@@ -313,7 +316,8 @@ impl Network {
         })
     }
 
-    /// Whether there is something for an end to read: bytes, the end of the stream, or that the connection is broken.
+    /// Whether there is something for an end to read: bytes, the end of the stream, or that the
+    /// connection is broken.
     pub fn is_ready(&self, end: End) -> bool {
         match self
             .connections
@@ -328,7 +332,8 @@ impl Network {
         }
     }
 
-    /// Bytes come on one connection that has any on their way, chosen at random, unless its server can't be reached.
+    /// Bytes come on one connection that has any on their way, chosen at random, unless its server
+    /// can't be reached.
     pub fn deliver_some(&mut self, dice: &mut Dice, unreachable: &[bool]) {
         let start = dice
             .below(self.connections.len())
@@ -355,7 +360,8 @@ impl Network {
         self.connections.get_mut(place?)
     }
 
-    // Forgets connections that no end has any more. One that is broken and was never accepted has one end alone.
+    // Forgets connections that no end has any more. One that is broken and was never accepted has
+    // one end alone.
     fn forget_closed(&mut self) {
         self.connections.retain(|connection| {
             let server_gone = connection.server_gone || connection.broken && !connection.accepted;

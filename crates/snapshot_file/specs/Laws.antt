@@ -10,7 +10,8 @@ use Rattle.snapshot_file.specs.Verdicts.{IsVerdict}
 abbrev pub OneNumber : Type 0
 OneNumber = (n : ℕ) (bytes : List ℕ) → ((i : ℕ) → slice_index bytes i < 256) → n ≤ length bytes → little_bytes n (little_number n bytes) ≡ take n bytes
 
--- a header has 91 bytes, and a snapshot 123 and those of its records; in a wide form each has one more
+-- a header has 91 bytes, and a snapshot 123 and those of its records; in a wide form each has one
+-- more
 abbrev pub LengthOfSnapshot : Type 0
 LengthOfSnapshot = (h : Header) (records : List ℕ) → IsSnapshot h records →
     (length (header_bytes h) ≡ 8 + fields_len h.form) × (length (snapshot_bytes h records) ≡ 40 + fields_len h.form + records_len h)

@@ -21,7 +21,8 @@ pub record AreInSlots (h : Header) (records moved : List ℕ) : Type 0 where
   pub len : length moved ≡ records_len (in_slots h)
   pub each : records_in (shape_of (in_slots h)) moved ≡ map (slot_of (h.record_len + 2)) (records_in (shape_of h) records)
 
--- a snapshot that records of one length were moved into: the layout of their slots is accepted, and each record has its own
+-- a snapshot that records of one length were moved into: the layout of their slots is accepted, and
+-- each record has its own
 pub record IsMoved (h : Header) (records : List ℕ) (moved : Snapshot) : Type 0 where
   pub form : IsPlainForm h.form
   pub layout : IsLayout (shape_of (in_slots h))

@@ -1,4 +1,5 @@
--- The bytes of a snapshot: a header of 91 bytes, or 92 in a wide form; the records; and the digest of both.
+-- The bytes of a snapshot: a header of 91 bytes, or 92 in a wide form; the records; and the digest
+-- of both.
 use Rattle.std.specs.Prelude.{◌≡◌, ◌⊎◌, ◌<◌, ◌≤◌, ◌+◌, ◌*◌, ◌^◌, ◌==◌, ℕ, List, [], ◌∷◌, ◌++◌, length, Bool, true, if◌then◌else◌, codes}
 use Rattle.std.specs.List.{list_all}
 use Rattle.byteorder.specs.Endian.{little_bytes}
@@ -96,7 +97,8 @@ pub record IsHeader (h : Header) : Type 0 where
   pub seed : length h.seed ≡ 32
   pub publisher : length h.publisher ≡ 32
 
--- a layout within its limits, slots of two bytes or more, a dimension of 1 to 1024, a version from 1 on
+-- a layout within its limits, slots of two bytes or more, a dimension of 1 to 1024, a version from
+-- 1 on
 pub record IsAccepted (h : Header) : Type 0 where
   pub form : is_form h.form h.record_len ≡ true
   pub layout : IsLayout (shape_of h)

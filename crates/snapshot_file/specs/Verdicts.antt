@@ -61,8 +61,8 @@ abbrev pub IsVerdict : List ℕ → Result (Header × List ℕ) SnapshotFault �
 IsVerdict bytes (Ok s) = IsSnapshot s.0 s.1 × (bytes ≡ snapshot_bytes s.0 s.1)
 IsVerdict bytes (Err fault) = HasSnapshotFault fault bytes
 
--- what may be answered to a whole input in place of its snapshot: its fault, or that a read failed or,
--- after an accepted header, that there was no memory
+-- what may be answered to a whole input in place of its snapshot: its fault, or that a read failed
+-- or, after an accepted header, that there was no memory
 abbrev pub MayRefuse : SnapshotFault → List ℕ → Type 0
 MayRefuse faults.NotSnapshot bytes = HasSnapshotFault faults.NotSnapshot bytes
 MayRefuse faults.BadLayout bytes = HasSnapshotFault faults.BadLayout bytes
@@ -73,8 +73,8 @@ MayRefuse faults.Read bytes = Unit {0}
 MayRefuse faults.Memory bytes = (h : Header) × (rest : List ℕ) × HasHeader bytes h rest
 MayRefuse faults.BadSlot bytes = HasSnapshotFault faults.BadSlot bytes
 
--- what had been read when reading stopped, and what was left: a fault is reported with the first byte that makes it, and a bad
--- slot at the end of the input
+-- what had been read when reading stopped, and what was left: a fault is reported with the first
+-- byte that makes it, and a bad slot at the end of the input
 abbrev pub StopsReadingAt : SnapshotFault → List ℕ → Option (List ℕ) → Type 0
 StopsReadingAt faults.NotSnapshot read left = (length read ≡ 8) × ¬ IsMagic read
 StopsReadingAt faults.BadLayout read left = HasBadHeader read []

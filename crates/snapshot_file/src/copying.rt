@@ -46,13 +46,14 @@ impl From<AllocError> for CopyFault {
     }
 }
 
-/// Writes the snapshot of a header and of all bytes that a reader has, which must be as many as the header's records have, and
-/// answers its digest. They pass through a buffer of 64 KiB; no other memory is taken but the header's. Whether they are slots, in a
-/// form of slots, is not judged.
+/// Writes the snapshot of a header and of all bytes that a reader has, which must be as many as the
+/// header's records have, and answers its digest. They pass through a buffer of 64 KiB; no other
+/// memory is taken but the header's. Whether they are slots, in a form of slots, is not judged.
 ///
 /// # Errors
 ///
-/// Each as [`CopyFault`] says. A part of the snapshot may have been written then, without its digest.
+/// Each as [`CopyFault`] says. A part of the snapshot may have been written then, without its
+/// digest.
 pub fn write_snapshot_read<R: Read, W: Write>(
     alloc: Global,
     header: &Header,
@@ -87,7 +88,8 @@ pub fn write_snapshot_read<R: Read, W: Write>(
     }
 }
 
-// Copies the bytes of a reader, so many and no more, and hashes them: as many at a time as the buffer has room for.
+// Copies the bytes of a reader, so many and no more, and hashes them: as many at a time as the
+// buffer has room for.
 fn copy_records<R: Read, W: Write>(
     reader: &mut R,
     len: usize,

@@ -2,7 +2,8 @@
 
 ghost use Rattle.std.specs.Prelude.{◌≡◌, ◌⊎◌, ◌≤◌, ◌++◌, length, take, IfOk, IfSome, IfNone};
 ghost use Rattle.sha2.specs.Sha256.{sha256};
-ghost use Rattle.snapshot_file.specs.Snapshots.{magic, form_bytes, hashed_bytes, header_bytes, IsForm, IsMagic, IsHeader};
+ghost use Rattle.snapshot_file.specs.Snapshots.{magic, form_bytes, hashed_bytes, header_bytes};
+ghost use Rattle.snapshot_file.specs.Snapshots.{IsForm, IsMagic, IsHeader};
 
 use crate::snapshot::Header;
 use byteorder::{ByteOrder, LittleEndian};
@@ -34,9 +35,11 @@ pub fn magic_bytes(form: u8) -> [u8; MAGIC_LEN]
     }
 }
 
-/// What form a snapshot has that begins with these bytes; 129 stands for both wide ones, which the next byte tells apart.
+/// What form a snapshot has that begins with these bytes; 129 stands for both wide ones, which the
+/// next byte tells apart.
 pub fn form_of(first: [u8; MAGIC_LEN]) -> Option<u8>
-    ensures found { IfSome result (λ form. ((form ≡ 1) ⊎ (form ≡ 2) ⊎ (form ≡ 129)) × (first ≡ magic form)) }
+    ensures found { IfSome result (λ form.
+        ((form ≡ 1) ⊎ (form ≡ 2) ⊎ (form ≡ 129)) × (first ≡ magic form)) }
     ensures none { IfNone result (¬ IsMagic first) }
 {
     if first == magic_bytes(1) {
@@ -113,8 +116,8 @@ pub fn digest_of(header: &[u8], records: &[u8]) -> [u8; DIGEST_LEN]
     hasher.finalize()
 }
 
-/// The digest of a snapshot: the SHA-256 (FIPS 180-4) of its header and the bytes of its records. Only refused memory gives an
-/// `Err`.
+/// The digest of a snapshot: the SHA-256 (FIPS 180-4) of its header and the bytes of its records.
+/// Only refused memory gives an `Err`.
 pub fn snapshot_digest(
     alloc: Global,
     header: &Header,

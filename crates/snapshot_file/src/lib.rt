@@ -1,10 +1,11 @@
 //! Snapshot files: the bytes that keep a store's records, its layout and its version.
 //!
-//! A snapshot is a header of 91 bytes, or 92 in a wide form, the records one after another, and the SHA-256 digest (FIPS 180-4)
-//! of all bytes before it. `specs/Snapshots.antt` defines these bytes, `specs/Verdicts.antt` what a reader
-//! makes of an input. Numbers stand with their lowest byte first.
+//! A snapshot is a header of 91 bytes, or 92 in a wide form, the records one after another, and the
+//! SHA-256 digest (FIPS 180-4) of all bytes before it. `specs/Snapshots.antt` defines these bytes,
+//! `specs/Verdicts.antt` what a reader makes of an input. Numbers stand with their lowest byte
+//! first.
 //!
-//! Its tests are in `frame_tests::snapshots` and `tests/long/frame_tests`.
+//! Its tests are in `tests_frame::snapshots` and `tests/long/tests_frame`.
 #![tactic(auto)]
 
 mod copying;

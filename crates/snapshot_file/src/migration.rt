@@ -1,4 +1,5 @@
-//! Moving the records of a snapshot into slots, so that each may have a length of its own from then on.
+//! Moving the records of a snapshot into slots, so that each may have a length of its own from then
+//! on.
 
 ghost use Rattle.std.specs.Prelude.{◌≡◌, ◌*◌, ◌+◌, IfOk, IfErr, length, map};
 ghost use Rattle.digit_pack.specs.Layout.{IsLayout, records_in};
@@ -50,13 +51,15 @@ impl From<AllocError> for MigrateError {
     }
 }
 
-/// The same records in form 2, or in form 130 if they are of form 129: version, seed, publisher and dimension stay, and each
-/// record stands in a slot of two bytes more. The layout of the slots is accepted whenever there is a result.
+/// The same records in form 2, or in form 130 if they are of form 129: version, seed, publisher and
+/// dimension stay, and each record stands in a slot of two bytes more. The layout of the slots is
+/// accepted whenever there is a result.
 ///
 /// # Errors
 ///
-/// `NotFormOne` exactly when the snapshot's form is neither 1 nor 129; `TooWide` exactly when it is one of these and no layout
-/// has records of so many bytes; `Memory`, in no other case, when memory for the slots was refused.
+/// `NotFormOne` exactly when the snapshot's form is neither 1 nor 129; `TooWide` exactly when it is
+/// one of these and no layout has records of so many bytes; `Memory`, in no other case, when memory
+/// for the slots was refused.
 pub fn migrate(alloc: Global, snapshot: &Snapshot) -> Result<Snapshot, MigrateError>
     requires layout { IsLayout (shape_of (header_of snapshot.now)) }
     requires len { length snapshot.now.records.items ≡ records_len (header_of snapshot.now) }

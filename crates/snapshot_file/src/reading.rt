@@ -35,7 +35,8 @@ ghost use Rattle.snapshot_file.specs.Snapshots.{
   IsFile,
   IsSnapshot,
 };
-ghost use Rattle.snapshot_file.specs.Verdicts.{EndsBelow, EndsKept, EndsAfter, StopsReadingAt, MayRefuse};
+ghost use Rattle.snapshot_file.specs.Verdicts.{EndsBelow, EndsKept, EndsAfter, StopsReadingAt};
+ghost use Rattle.snapshot_file.specs.Verdicts.{MayRefuse};
 
 use crate::header::{
     DIGEST_LEN, FIELDS_LEN, MAGIC_LEN, WIDE_FIELDS_LEN, digest_of, form_of, header_bytes, header_in,
@@ -180,8 +181,8 @@ fn keep_piece<R: Read>(
     }
 }
 
-// So many bytes of records, kept as they come: a header alone, whatever it claims, makes nobody reserve more
-// than a piece.
+// So many bytes of records, kept as they come: a header alone, whatever it claims, makes nobody
+// reserve more than a piece.
 fn read_records<R: Read>(
     alloc: Global,
     reader: &mut R,
@@ -195,12 +196,14 @@ fn read_records<R: Read>(
 {
     let buffer = piece_buffer(alloc, wanted.min(PIECE_LEN))?;
     let mut records = read_by_pieces(reader, wanted, buffer, Vec::new(alloc))?;
-    // The records stay as they are from here on: what they grew by beyond their length is given back.
+    // The records stay as they are from here on: what they grew by beyond their length is given
+    // back.
     records.shrink_to_fit();
     Ok(records)
 }
 
-// The same, with room for a piece and, to begin with, none for the records: it grows with what comes.
+// The same, with room for a piece and, to begin with, none for the records: it grows with what
+// comes.
 fn read_by_pieces<R: Read>(
     reader: &mut R,
     wanted: usize,
@@ -266,10 +269,11 @@ fn read_body<R: Read>(
     Ok((records, digest))
 }
 
-/// Reads a snapshot, which must be the whole input. Each fault is answered with the first byte that makes
-/// it: `NotSnapshot` with byte 8, `BadLayout` with the header's last byte (91, or 92 in a wide form), `BadDigest` with the last byte of the digest,
-/// `TrailingBytes` with the byte after it; `Short` where the input ends before that, and `BadSlot` at its end. `Read` is answered
-/// where a read fails, an interrupted one too, and `Memory` only after an accepted header. What is
+/// Reads a snapshot, which must be the whole input. Each fault is answered with the first byte that
+/// makes it: `NotSnapshot` with byte 8, `BadLayout` with the header's last byte (91, or 92 in a
+/// wide form), `BadDigest` with the last byte of the digest, `TrailingBytes` with the byte after
+/// it; `Short` where the input ends before that, and `BadSlot` at its end. `Read` is answered where
+/// a read fails, an interrupted one too, and `Memory` only after an accepted header. What is
 /// reserved never passes 64 KiB and a small multiple of the bytes that came.
 pub fn read_snapshot<R: Read>(alloc: Global, reader: &mut R) -> Result<Snapshot, SnapshotFault>
     ensures accepted { IfOk result (λ s. IsSnapshot (header_of s) s.records.items) }
@@ -288,8 +292,8 @@ pub fn read_snapshot<R: Read>(alloc: Global, reader: &mut R) -> Result<Snapshot,
     Ok(snapshot)
 }
 
-/// Reads a snapshot as [`read_snapshot`] does, and answers with it its digest: the SHA-256 (FIPS 180-4) of its header and its
-/// records.
+/// Reads a snapshot as [`read_snapshot`] does, and answers with it its digest: the SHA-256 (FIPS
+/// 180-4) of its header and its records.
 ///
 /// # Errors
 ///

@@ -1,12 +1,15 @@
-//! The records of a snapshot, read one by one into what keeps them: their bytes are nowhere as a whole.
+//! The records of a snapshot, read one by one into what keeps them: their bytes are nowhere as a
+//! whole.
 
-ghost use Rattle.std.specs.Prelude.{◌≡◌, ◌≤◌, ◌<◌, ◌*◌, ◌+◌, ◌^◌, ◌++◌, [], ℕ, List, length, true, if◌then◌else◌, OnOk, IfErr, IfOk};
+ghost use Rattle.std.specs.Prelude.{◌≡◌, ◌≤◌, ◌<◌, ◌*◌, ◌+◌, ◌^◌, ◌++◌, [], ℕ, List, length, true};
+ghost use Rattle.std.specs.Prelude.{if◌then◌else◌, OnOk, IfErr, IfOk};
 ghost use Rattle.std.specs.Io.KnownBytes.{Consumes, IsAtEnd};
 ghost use Rattle.sha2.specs.Sha256.{sha256};
 ghost use Rattle.sha2.specs.Hashers.{Holds256};
 ghost use Rattle.digit_pack.specs.Layout.{Shape};
 ghost use Rattle.digit_pack.specs.Slots.{is_slotted, is_slot};
-ghost use Rattle.snapshot_file.specs.Snapshots.{header_bytes, hashed_bytes, shape_of, with_count, has_slots, IsHeader, IsAccepted, IsSnapshot};
+ghost use Rattle.snapshot_file.specs.Snapshots.{header_bytes, hashed_bytes, shape_of, with_count};
+ghost use Rattle.snapshot_file.specs.Snapshots.{has_slots, IsHeader, IsAccepted, IsSnapshot};
 ghost use Rattle.snapshot_file.specs.Verdicts.{EndsBelow, StopsReadingAt};
 
 use crate::header::{DIGEST_LEN, header_bytes};
@@ -35,12 +38,14 @@ pub trait RecordSink: Sized + Drop {
         ensures shape { shape self.new ≡ shape self.old };
 }
 
-/// Reads what follows an accepted header into a sink, and answers the snapshot's digest: the records through a buffer of
-/// at most 64 KiB, their digest, and the end of the input. No other memory is taken but the header's.
+/// Reads what follows an accepted header into a sink, and answers the snapshot's digest: the
+/// records through a buffer of at most 64 KiB, their digest, and the end of the input. No other
+/// memory is taken but the header's.
 ///
 /// # Errors
 ///
-/// Those of `read_snapshot`, each with the byte that makes it; the sink may have taken records then.
+/// Those of `read_snapshot`, each with the byte that makes it; the sink may have taken records
+/// then.
 pub fn read_records_into<R: Read, S: RecordSink>(
     alloc: Global,
     reader: &mut R,
@@ -80,8 +85,8 @@ pub fn read_records_into<R: Read, S: RecordSink>(
     Ok(digest)
 }
 
-// Reads the records of a header into a sink, as many at a time as the buffer has room for, and hashes them. The answer is
-// whether each is a slot, in a form of slots.
+// Reads the records of a header into a sink, as many at a time as the buffer has room for, and
+// hashes them. The answer is whether each is a slot, in a form of slots.
 fn receive_records<R: Read, S: RecordSink>(
     reader: &mut R,
     header: &Header,
@@ -121,8 +126,8 @@ fn receive_records<R: Read, S: RecordSink>(
     Ok(good)
 }
 
-// Puts the records of a piece into a sink that has taken `first` of them. The answer is whether each that it has now is a slot, in a
-// form of slots, if `good` says so of those before.
+// Puts the records of a piece into a sink that has taken `first` of them. The answer is whether
+// each that it has now is a slot, in a form of slots, if `good` says so of those before.
 fn take_records<S: RecordSink>(
     header: &Header,
     first: usize,

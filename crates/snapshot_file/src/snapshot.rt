@@ -3,7 +3,8 @@
 ghost use Rattle.std.specs.Prelude.{◌≡◌, ◌↔◌, IsTrue, IfOk, IfErr, length};
 ghost use Rattle.digit_pack.specs.Layout.{IsLayout, IsLayoutFault};
 ghost use Rattle.digit_pack.specs.Slots.{is_form};
-ghost use Rattle.snapshot_file.specs.Snapshots.{header_of, shape_of, records_len, has_slots, IsAccepted};
+ghost use Rattle.snapshot_file.specs.Snapshots.{header_of, shape_of, records_len, has_slots};
+ghost use Rattle.snapshot_file.specs.Snapshots.{IsAccepted};
 ghost use Rattle.snapshot_file.specs.Names.{snapshot_fault_name};
 
 use connection_io::WriteFailed;
@@ -17,8 +18,8 @@ pub const MAX_DIMENSION: u16 = 1024;
 /// The fields of a snapshot but its records.
 #[derive(Clone, Copy, Debug, PartialEq, Eq)]
 pub struct Header {
-    /// 1 if all records have one length, 2 if each has its own and stands in a slot; 129 and 130 likewise, with a wide
-    /// digit matrix.
+    /// 1 if all records have one length, 2 if each has its own and stands in a slot; 129 and 130
+    /// likewise, with a wide digit matrix.
     pub form: u8,
     /// How many bits a digit has, 6 to 10 in a snapshot that is read.
     pub width: u8,
@@ -38,12 +39,12 @@ pub struct Header {
     pub publisher: [u8; 32],
 }
 
-/// A store at rest: one version of its records, and what it takes to serve them. The fields are those of
-/// [`Header`], and the bytes of the records one after another, record 0 first.
+/// A store at rest: one version of its records, and what it takes to serve them. The fields are
+/// those of [`Header`], and the bytes of the records one after another, record 0 first.
 #[derive(Drop)]
 pub struct Snapshot {
-    /// 1 if all records have one length, 2 if each has its own and stands in a slot; 129 and 130 likewise, with a wide
-    /// digit matrix.
+    /// 1 if all records have one length, 2 if each has its own and stands in a slot; 129 and 130
+    /// likewise, with a wide digit matrix.
     pub form: u8,
     /// How many bits a digit has.
     pub width: u8,
@@ -71,8 +72,9 @@ pub enum SnapshotFault {
     /// The first 8 bytes are none of `PIRSNAP1`, `PIRSNAP2` and `PIRWIDE1`.
     #[error("not a snapshot")]
     NotSnapshot,
-    /// The header's layout is refused, its records have one byte in a form of slots, its dimension is not in 1 to
-    /// [`MAX_DIMENSION`], or its version is 0; or a wide header names a form other than 129 and 130.
+    /// The header's layout is refused, its records have one byte in a form of slots, its dimension
+    /// is not in 1 to [`MAX_DIMENSION`], or its version is 0; or a wide header names a form other
+    /// than 129 and 130.
     #[error("the snapshot's layout, dimension or version is outside the limits")]
     BadLayout,
     /// The input ends in the header, the records or the digest.
@@ -184,8 +186,8 @@ impl Header {
         self.count as usize * self.record_len as usize
     }
 
-    /// The sizes of its records. They are accepted exactly within the limits; else the first cause is named, in the
-    /// order of [`LayoutError`].
+    /// The sizes of its records. They are accepted exactly within the limits; else the first cause
+    /// is named, in the order of [`LayoutError`].
     pub fn layout(&self) -> Result<Layout, LayoutError>
         ensures accepted { IfOk result (λ l. (l ≡ shape_of self.now) × IsLayout l) }
         ensures refused { IfErr result (IsLayoutFault (shape_of self.now)) }
@@ -199,7 +201,8 @@ impl Header {
         )
     }
 
-    /// Whether there is such a form, of records of so many bytes: 1 and 129; 2 and 130 if a record has two bytes at least.
+    /// Whether there is such a form, of records of so many bytes: 1 and 129; 2 and 130 if a record
+    /// has two bytes at least.
     pub fn has_form(&self) -> bool
         ensures { result ≡ is_form self.now.form self.now.record_len }
     {
@@ -221,8 +224,8 @@ impl Header {
         are_slots(&layout, records)
     }
 
-    /// Whether a reader takes it: a form that there is, a layout within its limits, a dimension in 1 to
-    /// [`MAX_DIMENSION`], and a version that is not 0.
+    /// Whether a reader takes it: a form that there is, a layout within its limits, a dimension in
+    /// 1 to [`MAX_DIMENSION`], and a version that is not 0.
     pub fn is_accepted(&self) -> bool
         ensures { IsTrue result ↔ IsAccepted self.now }
     {

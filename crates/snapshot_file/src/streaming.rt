@@ -1,6 +1,7 @@
 //! A snapshot written record by record, from records that stand nowhere as a whole.
 
-ghost use Rattle.std.specs.Prelude.{◌≡◌, ◌≤◌, ◌<◌, ◌*◌, ◌+◌, ◌^◌, ◌++◌, ℕ, List, length, take, drop, OnOk, OnErr, IfErr, IfOk};
+ghost use Rattle.std.specs.Prelude.{◌≡◌, ◌≤◌, ◌<◌, ◌*◌, ◌+◌, ◌^◌, ◌++◌, ℕ, List, length, take};
+ghost use Rattle.std.specs.Prelude.{drop, OnOk, OnErr, IfErr, IfOk};
 ghost use Rattle.std.specs.Io.KnownBytes.{Appends};
 ghost use Rattle.sha2.specs.Hashers.{Holds256};
 ghost use Rattle.snapshot_file.specs.Snapshots.{records_len, snapshot_bytes};
@@ -28,9 +29,10 @@ pub trait RecordSource: Sized + Drop {
             take (record_len self.now) (drop (i * record_len self.now) (bytes self.now)) };
 }
 
-/// Writes the snapshot of a header and a source's records, as many as the header says and each of its length. The records
-/// pass through a buffer of at most 64 KiB; no other memory is taken but the header's. After `Write`, where a write failed or took no
-/// byte, a part of it went out, and not the whole; `Memory` comes before the first byte.
+/// Writes the snapshot of a header and a source's records, as many as the header says and each of
+/// its length. The records pass through a buffer of at most 64 KiB; no other memory is taken but
+/// the header's. After `Write`, where a write failed or took no byte, a part of it went out, and
+/// not the whole; `Memory` comes before the first byte.
 pub fn write_snapshot_from<S: RecordSource, W: Write>(
     alloc: Global,
     header: &Header,
@@ -67,7 +69,8 @@ pub fn write_snapshot_from<S: RecordSource, W: Write>(
     Ok(())
 }
 
-// Room for as many whole records as 64 KiB have. What it holds is not said, which keeps it out of the proofs.
+// Room for as many whole records as 64 KiB have. What it holds is not said, which keeps it out of
+// the proofs.
 pub(crate) fn record_buffer(alloc: Global, record_len: usize) -> Result<Vec<u8>, AllocError>
     requires { (1 ≤ record_len) × (record_len ≤ 256) }
     ensures { IfOk result (λ buffer. record_len ≤ length buffer.items) }
@@ -75,7 +78,8 @@ pub(crate) fn record_buffer(alloc: Global, record_len: usize) -> Result<Vec<u8>,
     Vec::from_elem(alloc, 0u8, PIECE_LEN / record_len * record_len)
 }
 
-// Writes records of a source, so many from the first one on, and hashes them: as many at a time as the buffer has room for.
+// Writes records of a source, so many from the first one on, and hashes them: as many at a time as
+// the buffer has room for.
 fn write_records<S: RecordSource, W: Write>(
     source: &S,
     record_len: usize,

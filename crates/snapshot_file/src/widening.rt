@@ -48,13 +48,15 @@ impl From<AllocError> for WidenError {
     }
 }
 
-/// The same records in the wide form of the snapshot's, 129 for 1 and 130 for 2. Only the form and the public seed change:
-/// the hints of the wide store are others, so it needs a seed that no other store has.
+/// The same records in the wide form of the snapshot's, 129 for 1 and 130 for 2. Only the form and
+/// the public seed change: the hints of the wide store are others, so it needs a seed that no other
+/// store has.
 ///
 /// # Errors
 ///
-/// `NotOrdinary` exactly when the form is neither 1 nor 2; `BadWidth` exactly when it is one of these and digits have 10
-/// bits; `Memory`, in no other case, when memory for the records was refused.
+/// `NotOrdinary` exactly when the form is neither 1 nor 2; `BadWidth` exactly when it is one of
+/// these and digits have 10 bits; `Memory`, in no other case, when memory for the records was
+/// refused.
 #[tactic(auto, using(digit_pack::proofs::FormLemmas::wide_layout))]
 pub fn widen(alloc: Global, snapshot: &Snapshot, seed: [u8; 32]) -> Result<Snapshot, WidenError>
     requires { IsLayout (shape_of (header_of snapshot.now)) }

@@ -1,6 +1,7 @@
-//! What tests of several crates have in common: readers and writers over memory, and the store of two records.
+//! What tests of several crates have in common: readers and writers over memory, and the store of
+//! two records.
 //!
-//! The tests of `frame_tests`, `store_tests`, `session_tests` and `world_tests` use it.
+//! The tests of `tests_frame`, `tests_store`, `tests_session` and `tests_world` use it.
 #![tactic(auto)]
 
 mod stores;

@@ -8,8 +8,9 @@ pub const PUBLISHER: [u8; 32] = [
     0xed, 0x7e, 0xc2, 0xf7, 0xf5, 0xe1, 0xd3, 0x0b, 0xd9, 0xd5, 0x21, 0xf0, 0x15, 0x36, 0x37, 0x93,
 ];
 
-/// The header of two records of one byte: digits of eight bits, one record to a column, secrets of one word, a seed of
-/// zeros, version 1. Other stores of tests are written as what they have in place of it.
+/// The header of two records of one byte: digits of eight bits, one record to a column, secrets of
+/// one word, a seed of zeros, version 1. Other stores of tests are written as what they have in
+/// place of it.
 pub const TWO_RECORDS: Header = Header {
     form: 1,
     width: 8,

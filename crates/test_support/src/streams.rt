@@ -1,4 +1,5 @@
-//! Readers and writers over memory, for tests: they take their time, end, fail from some byte on, or fail once.
+//! Readers and writers over memory, for tests: they take their time, end, fail from some byte on,
+//! or fail once.
 
 ghost use Rattle.std.specs.Prelude.{◌≡◌, false};
 
@@ -25,7 +26,8 @@ impl Read for Input<'_> {
     }
 }
 
-/// Takes at most `most` bytes a write, and `room` in all. Then it takes 0 bytes, or every write fails.
+/// Takes at most `most` bytes a write, and `room` in all. Then it takes 0 bytes, or every write
+/// fails.
 #[derive(Drop)]
 pub struct Output {
     pub bytes: Vec<u8>,
@@ -50,8 +52,8 @@ impl Write for Output {
     }
 }
 
-/// A reader or a writer of which one call fails: the one that comes after `calls` others. Calls after that succeed,
-/// so that whoever tries once more is found out.
+/// A reader or a writer of which one call fails: the one that comes after `calls` others. Calls
+/// after that succeed, so that whoever tries once more is found out.
 #[derive(Drop)]
 pub struct FailsOnce<T> {
     pub inner: T,

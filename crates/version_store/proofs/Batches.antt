@@ -40,7 +40,8 @@ turn_inside l k h inside =
     let last : (k % l.groups + 1) * digit_cols l ≤ l.groups * digit_cols l = mul-le-mul_right (digit_cols l) (omega (arith, group)) in
     omega (arith, last, col)
 
--- the records xs, and those of k further ones, ys, that are written before turn n; the others are blank
+-- the records xs, and those of k further ones, ys, that are written before turn n; the others are
+-- blank
 abbrev pub records_so_far : Shape → ℕ → List (List ℕ) → List (List ℕ) → ℕ → List (List ℕ)
 records_so_far l k xs ys n = xs ++ records_before (counted l k) ys n
 

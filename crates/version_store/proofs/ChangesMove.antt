@@ -74,7 +74,8 @@ pub as_many : (p : Plan) (before after : List (List ℕ)) → length before ≤ 
 as_many p before after le =
     length-map (grown p (length after) before) (slot p) ∙ length-grown p (length after) before le ∙ sym (length-map after (slot p))
 
--- what differs between records and others that are as many or more moves the hint of the ones to that of the others
+-- what differs between records and others that are as many or more moves the hint of the ones to
+-- that of the others
 pub between_moves : (p : Plan) (before after : List (List ℕ)) → IsPlan p (length after) → All (IsRecordOf p) after → All (IsRecordOf p) before →
     length before ≤ length after →
     let l = shape_at p (length after) in

@@ -22,7 +22,8 @@ union_below n lists = filter (λ r. list_any (nat_eq r) (flat_map (λ list. list
 abbrev pub reaches_back : Log → ℕ → Bool
 reaches_back log v = nat_le v log.version && nat_le (log.version - v) (length log.lists)
 
--- the rows, of n, that the publications since a version changed, ascending; none where the log lacks one of these
+-- the rows, of n, that the publications since a version changed, ascending; none where the log
+-- lacks one of these
 unfoldable pub rows_logged : ℕ → Log → ℕ → Option (List ℕ)
 rows_logged n log v = if reaches_back log v then Some (union_below n (lists_since log v)) else None
 
@@ -76,7 +77,8 @@ swap true false = refl
 swap false true = refl
 swap false false = refl
 
--- a row is in one of the newest k lists exactly where one of the newest k pairs of versions differs in it
+-- a row is in one of the newest k lists exactly where one of the newest k pairs of versions differs
+-- in it
 in_newest : (p : Plan) (h : History) (r k : ℕ) → k ≤ length h.past →
     list_any (nat_eq r) (flat_map (λ list. list) (take k (changes_of p h.current h.past)))
     ≡ list_any (λ v. list_any (nat_eq r) (next_changes p h v)) (range_with_len (current_version h - k) k)

@@ -18,8 +18,8 @@ differs_at old new r = not (pointwise nat_eq (wide_row old new old r) (wide_row 
 unfoldable pub changed_rows : WordMatrix → WordMatrix → List ℕ
 changed_rows old new = filter (differs_at old new) (range_with_len 0 new.rows)
 
--- the rows of digits that each publication changed, the newest first; given are the records of the current version, and
--- those of the versions before it, the newest first
+-- the rows of digits that each publication changed, the newest first; given are the records of the
+-- current version, and those of the versions before it, the newest first
 unfoldable pub changes_of : Plan → List (List ℕ) → List (List (List ℕ)) → List (List ℕ)
 changes_of p current [] = []
 changes_of p current (before ∷ past) = changed_rows (digits_at p before) (digits_at p current) ∷ changes_of p before past

@@ -8,8 +8,9 @@ use Rattle.version_store.specs.Histories.{StoreState}
 abbrev pub IsUnchangedAt : StoreState → ℕ → Type 0
 IsUnchangedAt s k = (k < length s.edition.records) × (record_at s.draft k ≡ record_at s.edition.records k)
 
--- the first change of a draft at or after a place: its bytes are those of the draft and can be a record, the records up to it are
--- within every limit, and no record between the place and it is changed
+-- the first change of a draft at or after a place: its bytes are those of the draft and can be a
+-- record, the records up to it are within every limit, and no record between the place and it is
+-- changed
 pub record IsNextChange (s : StoreState) (low i : ℕ) (bytes : List ℕ) : Type 0 where
   pub at : low ≤ i
   pub inside : i < length s.draft

@@ -45,8 +45,8 @@ grown_to count e = record e { records = grown e.plan count e.records }
 abbrev pub HasAppended : Records → ℕ → Changes → Type 0
 HasAppended e count changes = (i : ℕ) → length e.records ≤ i → i < count → change_at changes i ≡ None → ⊥
 
--- the draft has as many records as the version or more, within every limit; the changes fit them, each record after those of
--- the version has one, and only rows that there are were logged
+-- the draft has as many records as the version or more, within every limit; the changes fit them,
+-- each record after those of the version has one, and only rows that there are were logged
 pub record IsHeld (e : Records) (count : ℕ) (changes : Changes) (log : List (List ℕ)) : Type 0 where
   pub more : length e.records ≤ count
   pub layout : IsLayout (shape_at e.plan count)

@@ -29,8 +29,9 @@ blank p = if is_slotted p.form then [] else replicate p.record_len 0
 abbrev pub grown : Plan → ℕ → List (List ℕ) → List (List ℕ)
 grown p n records = records ++ replicate (n - length records) (blank p)
 
--- bytes that records have in the digits, with the first public matrix, the digits and the SimplePIR hint that are made
--- from the records; the public matrix may have more rows than the digits have columns
+-- bytes that records have in the digits, with the first public matrix, the digits and the SimplePIR
+-- hint that are made from the records; the public matrix may have more rows than the digits have
+-- columns
 pub record IsMade (p : Plan) (l : Shape) (bytes : List ℕ) (a1 digits hint : WordMatrix) : Type 0 where
   pub form : is_form p.form p.record_len ≡ true
   pub layout : IsLayout l
@@ -45,11 +46,13 @@ pub record IsMade (p : Plan) (l : Shape) (bytes : List ℕ) (a1 digits hint : Wo
   pub digits_are : digits ≡ digits_at p (records_held p l.count bytes)
   pub hint_is : hint ≡ hint_matrix Simple p (records_held p l.count bytes)
 
--- the bytes of records in digits, one after another: an ordinary store keeps them, and a wide one has them in its digit matrix alone
+-- the bytes of records in digits, one after another: an ordinary store keeps them, and a wide one
+-- has them in its digit matrix alone
 unfoldable pub bytes_held : Plan → Shape → List ℕ → WordMatrix → List ℕ
 bytes_held p l kept digits = if is_wide p.form then flat_map (λ bytes. bytes) (records_in_digits l digits) else kept
 
--- the bytes that a layer keeps, none in a wide form, with what is made from the records that it holds
+-- the bytes that a layer keeps, none in a wide form, with what is made from the records that it
+-- holds
 pub record IsLayer (p : Plan) (l : Shape) (kept : List ℕ) (a1 digits hint : WordMatrix) : Type 0 where
   pub none : is_wide p.form ≡ true → kept ≡ []
   pub small : All (λ b. b < 2 ^ 8) (bytes_held p l kept digits)
@@ -87,7 +90,8 @@ pub record IsRowChange (hint a1 old new : WordMatrix) (marks : List Bool) : Type
   pub hint_is : hint ≡ product new a1
   pub kept : (r : ℕ) → r < new.rows → is_marked marks r ≡ false → row new r ≡ row old r
 
--- of every two such matrices: where both hints of DoublePIR were made from the old one, they are now made from the new one
+-- of every two such matrices: where both hints of DoublePIR were made from the old one, they are
+-- now made from the new one
 abbrev pub FollowsRows : ℕ → WordMatrix → WordMatrix → WordMatrix → WordMatrix → WordMatrix → WordMatrix → List Bool → Type 0
 FollowsRows w hint a2 server_before server_after client_before client_after marks =
     (old new a1 : WordMatrix) → IsRowChange hint a1 old new marks →

@@ -7,7 +7,8 @@ use Rattle.version_store.specs.declared.held_records.HeldRecords.{HeldRecords}
 use Rattle.version_store.specs.HeldRecords.{bytes_held_by, is_in_digits, HasShape}
 use Rattle.version_store.specs.Openings.{IsSound}
 
--- records that a store is opened with under the fields of their snapshot: in digits alone exactly in a wide form
+-- records that a store is opened with under the fields of their snapshot: in digits alone exactly
+-- in a wide form
 pub record IsHeldFor (h : Header) (held : HeldRecords) : Type 0 where
   pub sound : IsSound h (bytes_held_by held)
   pub kind : is_in_digits held ≡ is_wide h.form

@@ -11,10 +11,10 @@ use Rattle.version_store.specs.Deltas.{changed_rows, changes_of}
 use Rattle.version_store.specs.Editions.{Records}
 use Rattle.version_store.specs.OldRecords.{kept_olds, olds_replaced, slots_with_blanks, with_olds}
 
--- what a store keeps: the number of the current version and its records, the draft, whether an edit or an append was
--- accepted since the last publication, the digest of the publisher's key, the rows of digits that each of the newest 16
--- publications changed, the newest first, and the old bytes of the records that each of the newest publications changed, the
--- oldest first
+-- what a store keeps: the number of the current version and its records, the draft, whether an edit
+-- or an append was accepted since the last publication, the digest of the publisher's key, the rows
+-- of digits that each of the newest 16 publications changed, the newest first, and the old bytes of
+-- the records that each of the newest publications changed, the oldest first
 pub record StoreState : Type 0 where
   pub version : ℕ
   pub edition : Records
@@ -24,8 +24,8 @@ pub record StoreState : Type 0 where
   pub log : List (List ℕ)
   pub olds : List (List OldRecord)
 
--- a history: the number of the opening version, the versions before the current one, the newest first, the current one,
--- the draft, and the mark
+-- a history: the number of the opening version, the versions before the current one, the newest
+-- first, the current one, the draft, and the mark
 pub record History : Type 0 where
   pub first : ℕ
   pub past : List (List (List ℕ))
@@ -111,7 +111,8 @@ held_after (Edited i bytes ∷ more) s = held_after more (held_edited i bytes s)
 held_after (Appended bytes ∷ more) s = held_after more (held_appended bytes s)
 held_after (Published ∷ more) s = held_after more (held_published s)
 
--- each version has as many records as the one before it or more; given are the newest, and those before it, the newest first
+-- each version has as many records as the one before it or more; given are the newest, and those
+-- before it, the newest first
 abbrev pub AreGrowing : List (List ℕ) → List (List (List ℕ)) → Type 0
 AreGrowing newest [] = ⊤
 AreGrowing newest (before ∷ past) = (length before ≤ length newest) × AreGrowing before past
@@ -143,15 +144,16 @@ changed_since p h since r = list_any (λ v. list_any (nat_eq r) (next_changes p 
 abbrev pub is_recent : History → ℕ → Bool
 is_recent h v = nat_le h.first v && (nat_le v (current_version h) && nat_le (current_version h - v) 16)
 
--- The rows of digits in which some two consecutive versions from one to the current one differ, ascending, each once; none
--- where that one is neither the current version nor one of the 16 before it.
+-- The rows of digits in which some two consecutive versions from one to the current one differ,
+-- ascending, each once; none where that one is neither the current version nor one of the 16 before
+-- it.
 unfoldable pub delta_rows : Plan → History → ℕ → Option (List ℕ)
 delta_rows p h since =
     if is_recent h since then Some (filter (changed_since p h since) (range_with_len 0 (digit_rows (shape_at p (length h.current)))))
     else None
 
--- what differs between a version and the current one, as entries: of the bytes that records have in the digits, where blanks stand
--- for records that were appended since
+-- what differs between a version and the current one, as entries: of the bytes that records have in
+-- the digits, where blanks stand for records that were appended since
 abbrev pub entries_between : Plan → History → ℕ → List ℕ
 entries_between p h since =
     entries_bytes (changes_between (slots_with_blanks p (length h.current) (version_records h since)) (slots p h.current))
@@ -160,8 +162,8 @@ entries_between p h since =
 abbrev pub reaches_olds : ℕ → ℕ → ℕ → Bool
 reaches_olds current kept since = nat_le since current && nat_le (current - since) kept
 
--- what differs between a version and the current one, as entries; none if there is no such version, old bytes since it were
--- dropped, or the entries have more than so many bytes
+-- what differs between a version and the current one, as entries; none if there is no such version,
+-- old bytes since it were dropped, or the entries have more than so many bytes
 unfoldable pub changes_since : Plan → History → ℕ → ℕ → Option (List ℕ)
 changes_since p h since most =
     if reaches_olds (current_version h) (length (kept_olds p h.current h.past)) since

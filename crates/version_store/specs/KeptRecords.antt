@@ -26,7 +26,8 @@ pub record IsKept (l : Shape) (n : ℕ) (digits : WordMatrix) : Type 0 where
   pub len : length (bytes_in_digits l n digits) ≡ n * l.record_len
   pub digits_are : digits ≡ digit_matrix l (records_in (counted l n) (bytes_in_digits l n digits))
 
--- there is room for one record more behind those n that wait, in so many bytes, and for those that wait behind those that are kept
+-- there is room for one record more behind those n that wait, in so many bytes, and for those that
+-- wait behind those that are kept
 pub record HasRoomForMore (kept : KeptRecords) (n room : ℕ) : Type 0 where
   pub some : 1 ≤ kept.shape.record_len
   pub waiting : n * kept.shape.record_len + kept.shape.record_len ≤ room

@@ -20,14 +20,16 @@ use Rattle.version_store.specs.Histories.{AreGrowing, StoreState, History, Stand
 abbrev pub EachRunStands : Type 0
 EachRunStands = (changes : List Change) (s : StoreState) (h : History) → StandsFor s h → StandsFor (held_after changes s) (history_after changes h)
 
--- a row that is not among those since a version is the same in that version's SimplePIR hint and in the current one, both made from scratch
+-- a row that is not among those since a version is the same in that version's SimplePIR hint and in
+-- the current one, both made from scratch
 abbrev pub UnchangedRowsStay : Type 0
 UnchangedRowsStay = (p : Plan) (h : History) (since : ℕ) (rows : List ℕ) (records : List (List ℕ))
     → delta_rows p h since ≡ Some rows → records_of h since ≡ Some records
     → (r : ℕ) → r < digit_rows (shape_at p (length h.current)) → list_any (nat_eq r) rows ≡ false
     → row (hint_matrix Simple p records) r ≡ row (hint_matrix Simple p h.current) r
 
--- what differs between a version and the current one moves that version's SimplePIR hint to the current one, both made from scratch
+-- what differs between a version and the current one moves that version's SimplePIR hint to the
+-- current one, both made from scratch
 abbrev pub ChangesMoveTheHint : Type 0
 ChangesMoveTheHint = (p : Plan) (h : History) (since most : ℕ) (entries : List ℕ) (records : List (List ℕ))
     → IsPlan p (length h.current) → AreGrowing h.current h.past → All (IsRecordOf p) h.current → All (IsRecordOf p) records
@@ -35,14 +37,16 @@ ChangesMoveTheHint = (p : Plan) (h : History) (since most : ℕ) (entries : List
     → let l = shape_at p (length h.current) in
     moved l (first_public l p.dimension p.seed) (changes_in p.record_len entries) (hint_matrix Simple p records) ≡ hint_matrix Simple p h.current
 
--- a snapshot of one length that was moved into slots is one that a store is opened with, and holds the same records
+-- a snapshot of one length that was moved into slots is one that a store is opened with, and holds
+-- the same records
 abbrev pub MigratedRecordsStay : Type 0
 MigratedRecordsStay = (h : Header) (records moved : List ℕ) → IsSound h records → IsPlainForm h.form → IsLayout (shape_of (in_slots h)) →
     AreInSlots h records moved →
     IsSound (in_slots h) moved
     × (records_held (plan_held (in_slots h)) h.count moved ≡ records_held (plan_held h) h.count records)
 
--- a wide snapshot made of an ordinary one is one that a store is opened with, and holds the same records
+-- a wide snapshot made of an ordinary one is one that a store is opened with, and holds the same
+-- records
 abbrev pub WidenedRecordsStay : Type 0
 WidenedRecordsStay = (h : Header) (seed records : List ℕ) → IsSound h records → IsOrdinaryForm h.form →
     IsLayout (shape_of (in_wide h seed)) →

@@ -6,7 +6,7 @@ pub mod Histories
 pub mod DraftChanges
 pub mod Openings
 pub mod HeldFor
-pub mod Rooms
+pub mod Buffers
 pub mod Laws
 pub mod Names
 pub mod KeptRecords

@@ -21,11 +21,13 @@ olds_between before after = map old_of (changes_between before after)
 abbrev pub slots_with_blanks : Plan → ℕ → List (List ℕ) → List (List ℕ)
 slots_with_blanks p n records = slots p (grown p n records)
 
--- the old bytes of the records that a version changes of the one before it; blanks stand for those that were appended
+-- the old bytes of the records that a version changes of the one before it; blanks stand for those
+-- that were appended
 unfoldable pub olds_replaced : Plan → List (List ℕ) → List (List ℕ) → List OldRecord
 olds_replaced p before after = olds_between (slots_with_blanks p (length after) before) (slots p after)
 
--- how many old bytes a store keeps at most: an eighth of the bytes of its SimplePIR hint, whose words have four
+-- how many old bytes a store keeps at most: an eighth of the bytes of its SimplePIR hint, whose
+-- words have four
 abbrev pub most_old_bytes : Plan → ℕ
 most_old_bytes p = digit_rows (shape_at p 0) * p.dimension / 2
 
@@ -38,8 +40,8 @@ with_newest log (Some newest) = record log { lists = kept_within log.record_len 
 unfoldable pub with_olds : Plan → List (List OldRecord) → List OldRecord → List (List OldRecord)
 with_olds p lists newest = if is_wide p.form then kept_within p.record_len (most_old_bytes p) (lists ++ newest ∷ []) else lists
 
--- the old bytes that are kept of publications, the oldest first; given are the records of the current version, and those of the
--- versions before it, the newest first
+-- the old bytes that are kept of publications, the oldest first; given are the records of the
+-- current version, and those of the versions before it, the newest first
 unfoldable pub kept_olds : Plan → List (List ℕ) → List (List (List ℕ)) → List (List OldRecord)
 kept_olds p current [] = []
 kept_olds p current (before ∷ past) = with_olds p (kept_olds p before past) (olds_replaced p before current)

@@ -58,7 +58,8 @@ held_of h records = record {
   olds = [];
 }
 
--- a store as it is opened with a snapshot of this header and these records, and the snapshot's digest
+-- a store as it is opened with a snapshot of this header and these records, and the snapshot's
+-- digest
 pub record IsRead (h : Header) (records : List ℕ) (s : StoreState) (digest : List ℕ) : Type 0 where
   pub snapshot : IsSnapshot h records
   pub held : s ≡ held_of h records

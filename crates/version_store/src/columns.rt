@@ -9,8 +9,9 @@ use digit_pack::DigitStore;
 use hint_update::update_simple;
 use matrix_u32::{Kernel, Matrix};
 
-/// Writes digits into a column, from row `first` down, keeps the hint the product of the digits and the
-/// public matrix, and marks the rows whose digit changes. Nothing is multiplied for a digit that stays.
+/// Writes digits into a column, from row `first` down, keeps the hint the product of the digits and
+/// the public matrix, and marks the rows whose digit changes. Nothing is multiplied for a digit
+/// that stays.
 pub fn replace_digits<K: Kernel, S: DigitStore>(
     kernel: K,
     digits: &mut S,

@@ -1,20 +1,20 @@
 //! Records that are kept in their digits alone.
 
-ghost use Rattle.std.specs.Prelude.{◌≡◌, ◌≤◌, ◌<◌, ◌^◌, ◌+◌, ◌*◌, ◌++◌, ℕ, List, All, [], length, IfOk, OnOk, OnErr, slice_set};
+ghost use Rattle.std.specs.Prelude.{◌≡◌, ◌≤◌, ◌<◌, ◌^◌, ◌+◌, ◌*◌, ◌++◌, ℕ, List, All, [], length};
+ghost use Rattle.std.specs.Prelude.{IfOk, OnOk, OnErr, slice_set};
 ghost use Rattle.digit_pack.specs.Columns.{WritesColumn};
-ghost use Rattle.digit_pack.specs.Layout.{digit_rows, digit_cols, digit_matrix, first_row, column_of, record_digits, records_in};
+ghost use Rattle.digit_pack.specs.Layout.{digit_rows, digit_cols, digit_matrix, first_row};
+ghost use Rattle.digit_pack.specs.Layout.{column_of, record_digits, records_in};
 ghost use Rattle.version_store.specs.KeptRecords.{counted};
 
 use crate::first_layer::Digits;
-use digit_pack::{DigitStore, Layout, copy_record, digits_of_records, pack};
+use digit_pack::{DigitStore, Layout, copy_record, digit_buffer, digits_of_records, pack};
 use snapshot_file::{RecordSink, RecordSource};
 use std::alloc::{AllocError, Global};
 use std::marker::Model;
 
-/// How many digits a record has at most: 256 bytes in digits of 6 bits.
-const MOST_DIGITS: usize = 342;
-
-/// The first records of a layout, kept in its digits alone. A contract sees it as the layout and the records' bytes.
+/// The first records of a layout, kept in its digits alone. A contract sees it as the layout and
+/// the records' bytes.
 #[derive(Drop)]
 pub struct DigitRecords {
     layout: Layout,
@@ -72,7 +72,8 @@ impl DigitRecords {
         })
     }
 
-    /// The records of a layout that stand one after another in `bytes`. Only refused memory gives an `Err`.
+    /// The records of a layout that stand one after another in `bytes`. Only refused memory gives
+    /// an `Err`.
     pub fn from_bytes(
         alloc: Global,
         layout: Layout,
@@ -100,9 +101,11 @@ impl DigitRecords {
         self.layout.record_len()
     }
 
-    /// Takes records that stand one after another in `bytes`, after those that it has. It takes no memory.
+    /// Takes records that stand one after another in `bytes`, after those that it has. It takes no
+    /// memory.
     ///
-    /// They are written as [`digits_of_records`] writes them, so it is best for records of whole columns.
+    /// They are written as [`digits_of_records`] writes them, so it is best for records of whole
+    /// columns.
     pub fn take_records(&mut self, bytes: &[u8])
         requires whole { (n : ℕ) × (length bytes.now ≡ n * self.old.shape.record_len) }
         requires room { length self.old.bytes + length bytes.now ≤
@@ -129,10 +132,11 @@ impl DigitRecords {
         write_place(&self.layout, &mut self.digits, i, bytes);
     }
 
-    /// Puts a record after the last one: `layout` is that of one record more. Only refused memory gives an `Err`, and then nothing
-    /// has changed.
+    /// Puts a record after the last one: `layout` is that of one record more. Only refused memory
+    /// gives an `Err`, and then nothing has changed.
     ///
-    /// Memory is taken only where a row of digits becomes a word longer, once in three further columns.
+    /// Memory is taken only where a row of digits becomes a word longer, once in three further
+    /// columns.
     pub fn push(&mut self, layout: Layout, bytes: &[u8]) -> Result<(), AllocError>
         requires whole { length self.old.bytes ≡
             self.old.shape.count * self.old.shape.record_len }
@@ -161,8 +165,8 @@ impl DigitRecords {
     }
 }
 
-// Writes the digits of `count` records, which stand one after another in `bytes`, into the places of records from `first` on: those of
-// a group, which have their rows in common, one after another.
+// Writes the digits of `count` records, which stand one after another in `bytes`, into the places
+// of records from `first` on: those of a group, which have their rows in common, one after another.
 fn write_records(layout: &Layout, digits: &mut Digits, first: usize, count: usize, bytes: &[u8])
     requires inside { first + count ≤ layout.now.count }
     requires len { length bytes.now ≡ count * layout.now.record_len }
@@ -193,14 +197,9 @@ fn write_place(layout: &Layout, digits: &mut Digits, i: usize, bytes: &[u8])
     ensures { WritesColumn digits.old digits.new (first_row layout.now i) (column_of layout.now i)
         (record_digits layout.now bytes.now) }
 {
-    let mut room = digit_room();
+    let mut room = digit_buffer();
     let packed = &mut room[..layout.digits_per_record()];
     let (first, col) = layout.place(i);
     pack(layout, bytes, packed);
     digits.swap_digits(first, col, packed);
-}
-
-// Room for the digits of a record. They are not said, which keeps them out of the proofs.
-fn digit_room() -> [u32; MOST_DIGITS] {
-    [0; MOST_DIGITS]
 }

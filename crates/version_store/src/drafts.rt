@@ -13,8 +13,8 @@ use std::collections::BTreeMap;
 /// The changed records by their indices.
 pub type Changes = BTreeMap<usize, Vec<u8>>;
 
-/// Puts each change into the records, marks the rows whose digits change, and leaves no change. `scratch` has
-/// room for a record's digits, and `marks` a mark for each row of digits.
+/// Puts each change into the records, marks the rows whose digits change, and leaves no change.
+/// `scratch` has room for a record's digits, and `marks` a mark for each row of digits.
 pub fn apply_changes<K: Kernel>(
     kernel: K,
     layer: &mut FirstLayer,

@@ -1,24 +1,27 @@
 //! One version's records, with everything that is made from them.
 
-ghost use Rattle.std.specs.Prelude.{◌≡◌, [], ◌*◌, ◌<◌, ◌≤◌, IfOk, IfSome, OnOk, OnErr, true, false, length};
+ghost use Rattle.std.specs.Prelude.{◌≡◌, [], ◌*◌, ◌<◌, ◌≤◌, IfOk, IfSome, OnOk, OnErr, true, false};
+ghost use Rattle.std.specs.Prelude.{length};
 ghost use Rattle.std.specs.List.{list_all};
 ghost use Rattle.digit_pack.specs.Slots.{is_form};
-ghost use Rattle.digit_pack.specs.Layout.{IsLayout, is_wide, digit_rows, digit_cols, digits_per_record, record_at, records_in};
+ghost use Rattle.digit_pack.specs.Layout.{IsLayout, is_wide, digit_rows, digit_cols};
+ghost use Rattle.digit_pack.specs.Layout.{digits_per_record, record_at, records_in};
 ghost use Rattle.digit_pack.specs.Packed.{packed};
-ghost use Rattle.pir_schemes.specs.Plans.{IsPlan, is_slot_of, records_held, shape_at, slots, digits_at};
+ghost use Rattle.pir_schemes.specs.Plans.{IsPlan, is_slot_of, records_held, shape_at, slots};
+ghost use Rattle.pir_schemes.specs.Plans.{digits_at};
 ghost use Rattle.pir_schemes.specs.Retrievals.{hint_matrix, server_hint, query_count, answer_words};
 ghost use Rattle.version_store.specs.Drafts.{draft_of, grown_to, FitRecords};
 ghost use Rattle.version_store.specs.Editions.{Records, version_shape, MarksChanges};
 ghost use Rattle.version_store.specs.HeldRecords.{bytes_held_by, is_in_digits, HasShape};
 ghost use Rattle.version_store.specs.Openings.{bytes_of_records};
-ghost use Rattle.version_store.specs.Rooms.{scheme_answered, IsAnswerRoom, IsRoomForRows};
+ghost use Rattle.version_store.specs.Buffers.{scheme_answered, IsAnswerBuffers, IsRoomForRows};
 
-use crate::answer_room::AnswerRoom;
+use crate::answer_buffers::AnswerBuffers;
 use crate::drafts::{Changes, apply_changes};
 use crate::first_layer::{Digits, FirstLayer};
 use crate::held_records::HeldRecords;
 use crate::preparing::Preparation;
-use crate::rows::{FollowRoom, follow_rows};
+use crate::rows::{FollowBuffers, follow_rows};
 use digit_pack::{DigitStore, Layout};
 use double_scheme::STEP_DIGITS;
 use matrix_u32::{Kernel, Matrix};
@@ -28,8 +31,8 @@ use simple_scheme::HintWatcher;
 use std::alloc::{AllocError, Global};
 use std::marker::Model;
 
-/// The records of one version with the hints of both schemes. A contract sees it as `Records`: the hints are
-/// always those that are made from scratch.
+/// The records of one version with the hints of both schemes. A contract sees it as `Records`: the
+/// hints are always those that are made from scratch.
 #[derive(Drop)]
 pub struct Edition<K: Kernel> {
     kernel: K,
@@ -54,9 +57,10 @@ impl<K: Kernel> Model for Edition<K> {
 }
 
 impl<K: Kernel> Edition<K> {
-    /// The edition of the records that are held: their digits, the public matrices of the plan, and the hints by the schemes'
-    /// `setup`, first that of SimplePIR and then that of DoublePIR, each watched while its rows are made. `layout` has the
-    /// plan's sizes. Only refused memory gives an `Err`.
+    /// The edition of the records that are held: their digits, the public matrices of the plan, and
+    /// the hints by the schemes' `setup`, first that of SimplePIR and then that of DoublePIR, each
+    /// watched while its rows are made. `layout` has the plan's sizes. Only refused memory gives an
+    /// `Err`.
     pub fn open<W: HintWatcher>(
         alloc: Global,
         kernel: K,
@@ -163,35 +167,36 @@ impl<K: Kernel> Edition<K> {
         self.server.words()
     }
 
-    /// Memory for the answer to a query. It is taken by sizes alone. Only refused memory gives an `Err`.
-    pub fn answer_room(&self, alloc: Global, scheme: Scheme) -> Result<AnswerRoom, AllocError>
+    /// Memory for the answer to a query. It is taken by sizes alone. Only refused memory gives an
+    /// `Err`.
+    pub fn answer_buffers(&self, alloc: Global, scheme: Scheme) -> Result<AnswerBuffers, AllocError>
         ensures scheme { IfOk result (λ room. scheme_answered room ≡ scheme) }
         ensures sizes { IfOk result (λ room.
-            IsAnswerRoom (version_shape self.now) self.now.plan.dimension room) }
+            IsAnswerBuffers (version_shape self.now) self.now.plan.dimension room) }
     {
         let dimension = usize::from(self.layer.plan().dimension);
-        AnswerRoom::new(alloc, scheme, self.layer.layout(), dimension)
+        AnswerBuffers::new(alloc, scheme, self.layer.layout(), dimension)
     }
 
     /// The answer to the words of a query of the room's scheme. It takes no memory.
-    pub fn answer_in(&self, room: AnswerRoom, words: &[u32]) -> Vec<u32>
+    pub fn answer_in(&self, room: AnswerBuffers, words: &[u32]) -> Vec<u32>
         requires words { length words.now ≡
             query_count (scheme_answered room) (version_shape self.now) }
-        requires sizes { IsAnswerRoom (version_shape self.now) self.now.plan.dimension room }
+        requires sizes { IsAnswerBuffers (version_shape self.now) self.now.plan.dimension room }
         ensures { result.items ≡
             answer_words (scheme_answered room) self.now.plan self.now.records words.now }
     {
         match room {
-            AnswerRoom::Simple(mut out) => {
+            AnswerBuffers::Simple(mut out) => {
                 self.layer.put_answer(self.kernel, words, &mut out);
                 out
             }
-            AnswerRoom::Double(room) => self.double_answer_in(room, words),
+            AnswerBuffers::Double(room) => self.double_answer_in(room, words),
         }
     }
 
     // The answer to the words of a DoublePIR query.
-    fn double_answer_in(&self, room: double_scheme::AnswerRoom, words: &[u32]) -> Vec<u32>
+    fn double_answer_in(&self, room: double_scheme::AnswerBuffers, words: &[u32]) -> Vec<u32>
         requires words { length words.now ≡ query_count Scheme.Double (version_shape self.now) }
         requires layout { room.layout ≡ version_shape self.now }
         requires dimension { room.dimension ≡ self.now.plan.dimension }
@@ -202,7 +207,8 @@ impl<K: Kernel> Edition<K> {
         room.fill(self.kernel, digits, &self.server, &self.a2, words)
     }
 
-    /// Whether an answer of a scheme is made in more than one step: whether it reads more digits than one step does.
+    /// Whether an answer of a scheme is made in more than one step: whether it reads more digits
+    /// than one step does.
     pub fn has_steps(&self, scheme: Scheme) -> bool {
         let layout = self.layer.layout();
         let digits = layout.rows().saturating_mul(layout.cols());
@@ -216,7 +222,8 @@ impl<K: Kernel> Edition<K> {
         }
     }
 
-    /// Begins the answer to a query, in place of another one that was begun. Only refused memory gives an `Err`, and then none is begun.
+    /// Begins the answer to a query, in place of another one that was begun. Only refused memory
+    /// gives an `Err`, and then none is begun.
     pub fn begin_answer(
         &mut self,
         alloc: Global,
@@ -234,7 +241,8 @@ impl<K: Kernel> Edition<K> {
         Ok(())
     }
 
-    /// Makes one more step of the answer that was begun, and answers whether none is left, also if no answer was begun.
+    /// Makes one more step of the answer that was begun, and answers whether none is left, also if
+    /// no answer was begun.
     pub fn step_answer(&mut self) -> bool
         ensures { self.new ≡ self.old }
     {
@@ -269,8 +277,8 @@ impl<K: Kernel> Edition<K> {
         self.prepared = None;
     }
 
-    /// Puts blanks after the records, so many in all: the digits get columns of zeros, and no hint changes. Only refused
-    /// memory gives an `Err`, and then nothing has changed.
+    /// Puts blanks after the records, so many in all: the digits get columns of zeros, and no hint
+    /// changes. Only refused memory gives an `Err`, and then nothing has changed.
     pub fn grow(&mut self, alloc: Global, count: usize) -> Result<(), AllocError>
         requires more { length self.old.records ≤ count }
         requires layout { IsLayout (shape_at self.old.plan count) }
@@ -284,18 +292,18 @@ impl<K: Kernel> Edition<K> {
         Ok(())
     }
 
-    /// Puts each change into the records, marks the rows whose digits change, and leaves no change. `scratch`
-    /// has room for a record's digits, `marks` a mark for each row of digits, and `rows` is what rows that change together
-    /// want; what `scratch` and `rows` held is lost.
+    /// Puts each change into the records, marks the rows whose digits change, and leaves no change.
+    /// `scratch` has room for a record's digits, `marks` a mark for each row of digits, and `rows`
+    /// is what rows that change together want; what `scratch` and `rows` held is lost.
     ///
-    /// The hint of SimplePIR follows each digit that changes; those of DoublePIR follow each row that has
-    /// one, once, many rows together. It takes no memory.
+    /// The hint of SimplePIR follows each digit that changes; those of DoublePIR follow each row
+    /// that has one, once, many rows together. It takes no memory.
     pub fn apply(
         &mut self,
         changes: &mut Changes,
         scratch: &mut [u32],
         marks: &mut [bool],
-        rows: &mut FollowRoom,
+        rows: &mut FollowBuffers,
     )
         requires fit { FitRecords self.old changes.old.entries }
         requires room { length scratch.old ≡ digits_per_record (version_shape self.old) }

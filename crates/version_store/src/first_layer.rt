@@ -1,10 +1,14 @@
 //! The records of one version, with what SimplePIR makes from them.
 
-ghost use Rattle.std.specs.Prelude.{◌≡◌, ◌⊎◌, ◌-◌, ◌*◌, ◌^◌, ◌++◌, ◌<◌, ◌≤◌, [], IfOk, OnOk, OnErr, true, false, length, take, drop, replicate, slice_set, vec_capacity};
+ghost use Rattle.std.specs.Prelude.{◌≡◌, ◌⊎◌, ◌-◌, ◌*◌, ◌^◌, ◌++◌, ◌<◌, ◌≤◌, [], IfOk, OnOk, OnErr};
+ghost use Rattle.std.specs.Prelude.{true, false, length, take, drop, replicate, slice_set};
+ghost use Rattle.std.specs.Prelude.{vec_capacity};
 ghost use Rattle.std.specs.List.{list_all};
 ghost use Rattle.digit_pack.specs.Slots.{is_form};
-ghost use Rattle.digit_pack.specs.Layout.{IsLayout, is_wide, digit_rows, digit_cols, digits_per_record, record_at, records_in};
-ghost use Rattle.pir_schemes.specs.Plans.{IsPlan, fits, is_slot_of, records_held, shape_at, content, slots, digits_at};
+ghost use Rattle.digit_pack.specs.Layout.{IsLayout, is_wide, digit_rows, digit_cols};
+ghost use Rattle.digit_pack.specs.Layout.{digits_per_record, record_at, records_in};
+ghost use Rattle.pir_schemes.specs.Plans.{IsPlan, fits, is_slot_of, records_held, shape_at};
+ghost use Rattle.pir_schemes.specs.Plans.{content, slots, digits_at};
 ghost use Rattle.pir_schemes.specs.Retrievals.{hint_matrix, answer_words};
 ghost use Rattle.matrix_u32.specs.Matrix.{times_vector};
 ghost use Rattle.double_scheme.specs.Steps.{HasFirst};
@@ -17,7 +21,7 @@ ghost use Rattle.version_store.specs.Openings.{bytes_of_records};
 use crate::columns::replace_digits;
 use crate::held_records::HeldRecords;
 use digit_pack::{
-    DigitStore, Layout, MAX_RECORD_LEN, Wide3, copy_record, is_wide, nth_record, pack, write_record,
+    DigitStore, Layout, Wide3, copy_record, is_wide, nth_record, pack, record_buffer, write_record,
 };
 use double_scheme::{STEP_DIGITS, put_rows, rows_in_step};
 use matrix_u32::{Kernel, Matrix};
@@ -31,9 +35,10 @@ use std::marker::Model;
 /// What keeps the digits: three in a word.
 pub type Digits = Wide3;
 
-/// The records of one version, their digit matrix, the first public matrix and the SimplePIR hint. A
-/// contract sees it as `Records`: the hint is always the one that is made from scratch. The bytes of the records are kept beside their
-/// digits in an ordinary form, and read out of them in a wide one.
+/// The records of one version, their digit matrix, the first public matrix and the SimplePIR hint.
+/// A contract sees it as `Records`: the hint is always the one that is made from scratch. The bytes
+/// of the records are kept beside their digits in an ordinary form, and read out of them in a wide
+/// one.
 #[derive(Drop)]
 pub struct FirstLayer {
     plan: Plan,
@@ -73,8 +78,9 @@ impl RecordSource for FirstLayer {
 }
 
 impl FirstLayer {
-    /// What is made of the records that are held: their digits, the first public matrix of the plan, and the hint by `setup`.
-    /// `layout` has the plan's sizes. The hint is watched while its rows are made. Only refused memory gives an `Err`.
+    /// What is made of the records that are held: their digits, the first public matrix of the
+    /// plan, and the hint by `setup`. `layout` has the plan's sizes. The hint is watched while its
+    /// rows are made. Only refused memory gives an `Err`.
     pub fn open<K: Kernel, W: HintWatcher>(
         alloc: Global,
         kernel: K,
@@ -155,8 +161,8 @@ impl FirstLayer {
         self.layout.count() * self.layout.record_len()
     }
 
-    /// Writes the bytes that record i has in the digits into `out`, whatever it held: in forms of slots those of its slot. It takes no
-    /// memory.
+    /// Writes the bytes that record i has in the digits into `out`, whatever it held: in forms of
+    /// slots those of its slot. It takes no memory.
     pub fn copy_slot(&self, i: usize, out: &mut [u8])
         requires index { i < length self.now.records }
         requires room { length out.old ≡ self.now.plan.record_len }
@@ -199,7 +205,8 @@ impl FirstLayer {
         self.digits.mul_vec(kernel, words, out);
     }
 
-    /// Writes some more words of the answer to the words of a SimplePIR query, and answers how many there are then.
+    /// Writes some more words of the answer to the words of a SimplePIR query, and answers how many
+    /// there are then.
     pub fn put_answer_rows<K: Kernel>(
         &self,
         kernel: K,
@@ -228,8 +235,9 @@ impl FirstLayer {
         made + count
     }
 
-    /// Puts blanks after the records, so many in all: the digits get columns of zeros, and the hint stays. Only refused
-    /// memory gives an `Err`, and then nothing has changed; the public matrix may have got its further rows already.
+    /// Puts blanks after the records, so many in all: the digits get columns of zeros, and the hint
+    /// stays. Only refused memory gives an `Err`, and then nothing has changed; the public matrix
+    /// may have got its further rows already.
     pub fn grow(&mut self, alloc: Global, count: usize) -> Result<(), AllocError>
         requires more { length self.old.records ≤ count }
         requires layout { IsLayout (shape_at self.old.plan count) }
@@ -249,8 +257,8 @@ impl FirstLayer {
         Ok(())
     }
 
-    /// Puts another record in the place of record i, and marks the rows whose digits change. `scratch` has
-    /// room for a record's digits, and `marks` a mark for each row of digits.
+    /// Puts another record in the place of record i, and marks the rows whose digits change.
+    /// `scratch` has room for a record's digits, and `marks` a mark for each row of digits.
     ///
     /// Only the record's digits that change are multiplied, each by one row of the public matrix.
     pub fn replace<K: Kernel>(
@@ -271,7 +279,7 @@ impl FirstLayer {
             (digits_at self.new.plan self.new.records) marks.old marks.new }
     {
         let (first, col) = self.layout.place(i);
-        let mut room = slot_room();
+        let mut room = record_buffer();
         let slot = &mut room[..self.layout.record_len()];
         self.plan.fill(bytes, slot);
         keep_record(self.plan.form, &self.layout, &mut self.kept, i, slot);
@@ -289,11 +297,6 @@ impl FirstLayer {
     }
 }
 
-// Room for the bytes that a record has in the digits. They are not said, which keeps them out of the proofs.
-pub(crate) fn slot_room() -> [u8; MAX_RECORD_LEN] {
-    [0; MAX_RECORD_LEN]
-}
-
 // Writes other bytes over those of record i, where the bytes of records are kept.
 fn keep_record(form: u16, layout: &Layout, kept: &mut [u8], i: usize, slot: &[u8])
     requires count { is_wide form ≡ false →
@@ -309,7 +312,8 @@ fn keep_record(form: u16, layout: &Layout, kept: &mut [u8], i: usize, slot: &[u8
     }
 }
 
-// Takes memory for the bytes of a layout's records, where they are kept. Only refused memory gives an `Err`.
+// Takes memory for the bytes of a layout's records, where they are kept. Only refused memory gives
+// an `Err`.
 fn reserve_kept(form: u16, layout: &Layout, kept: &mut Vec<u8>) -> Result<(), AllocError>
     requires fewer { is_wide form ≡ false →
         length kept.old.items ≤ layout.now.count * layout.now.record_len }
@@ -340,7 +344,8 @@ fn grow_kept(form: u16, layout: &Layout, kept: &mut Vec<u8>)
     }
 }
 
-// Gives the first public matrix so many rows at least. Only refused memory gives an `Err`, and then it is as it was.
+// Gives the first public matrix so many rows at least. Only refused memory gives an `Err`, and then
+// it is as it was.
 fn extend_public(alloc: Global, plan: &Plan, a1: &mut Matrix, rows: usize) -> Result<(), AllocError>
     requires few { rows ≤ 32768 }
     requires dimension { (1 ≤ plan.now.dimension) × (plan.now.dimension ≤ 1024) }

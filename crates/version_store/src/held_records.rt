@@ -1,6 +1,7 @@
 //! The records that a store is opened with.
 
-ghost use Rattle.std.specs.Prelude.{◌≡◌, ◌≤◌, ◌<◌, ◌^◌, ◌+◌, ◌*◌, ◌++◌, All, [], length, take, drop, if◌then◌else◌, IfOk, OnOk, OnErr, slice_set};
+ghost use Rattle.std.specs.Prelude.{◌≡◌, ◌≤◌, ◌<◌, ◌^◌, ◌+◌, ◌*◌, ◌++◌, All, [], length, take};
+ghost use Rattle.std.specs.Prelude.{drop, if◌then◌else◌, IfOk, OnOk, OnErr, slice_set};
 ghost use Rattle.digit_pack.specs.Layout.{is_wide, digit_matrix, records_in};
 ghost use Rattle.version_store.specs.KeptRecords.{counted};
 ghost use Rattle.version_store.specs.HeldRecords.{bytes_held_by, is_in_digits, HasShape};
@@ -11,8 +12,8 @@ use digit_pack::{Layout, digits_of_records, is_wide, nth_record, write_record};
 use snapshot_file::RecordSource;
 use std::alloc::{AllocError, Global};
 
-/// The records that a store is opened with: the bytes of all, one after another, in an ordinary form, and their digits alone in a
-/// wide one.
+/// The records that a store is opened with: the bytes of all, one after another, in an ordinary
+/// form, and their digits alone in a wide one.
 #[derive(Drop)]
 pub enum HeldRecords {
     Bytes(Vec<u8>),
@@ -20,7 +21,8 @@ pub enum HeldRecords {
 }
 
 impl HeldRecords {
-    /// The records of a form and a layout that stand one after another in `bytes`. Only refused memory gives an `Err`.
+    /// The records of a form and a layout that stand one after another in `bytes`. Only refused
+    /// memory gives an `Err`.
     pub fn from_bytes(
         alloc: Global,
         form: u16,
@@ -43,7 +45,8 @@ impl HeldRecords {
     pub fn replace(&mut self, layout: &Layout, i: usize, bytes: &[u8])
         requires shape { HasShape layout.now self.old }
         requires index { i < layout.now.count }
-        requires whole { length (bytes_held_by self.old) ≡ layout.now.count * layout.now.record_len }
+        requires whole { length (bytes_held_by self.old) ≡
+            layout.now.count * layout.now.record_len }
         requires len { length bytes.now ≡ layout.now.record_len }
         ensures kind { is_in_digits self.new ≡ is_in_digits self.old }
         ensures shape { HasShape layout.now self.new }
@@ -57,8 +60,8 @@ impl HeldRecords {
         }
     }
 
-    /// Puts a record after the last one: `layout` is that of one record more than `count`. Only refused memory gives an `Err`, and then
-    /// nothing has changed.
+    /// Puts a record after the last one: `layout` is that of one record more than `count`. Only
+    /// refused memory gives an `Err`, and then nothing has changed.
     pub fn push(&mut self, layout: Layout, count: usize, bytes: &[u8]) -> Result<(), AllocError>
         requires shape { HasShape (counted layout count) self.old }
         requires more { layout.count ≡ count + 1 }
@@ -79,7 +82,8 @@ impl HeldRecords {
     /// Writes the bytes of record i into `out`, whatever it held. It takes no memory.
     pub fn copy_record(&self, layout: &Layout, i: usize, out: &mut [u8])
         requires shape { HasShape layout.now self.now }
-        requires whole { length (bytes_held_by self.now) ≡ layout.now.count * layout.now.record_len }
+        requires whole { length (bytes_held_by self.now) ≡
+            layout.now.count * layout.now.record_len }
         requires index { i < layout.now.count }
         requires room { length out.old ≡ layout.now.record_len }
         ensures { out.new ≡ take layout.now.record_len
@@ -91,8 +95,8 @@ impl HeldRecords {
         }
     }
 
-    /// The digits of all records, and the bytes that are kept beside them: none if the digits alone were. Only refused memory gives an
-    /// `Err`.
+    /// The digits of all records, and the bytes that are kept beside them: none if the digits alone
+    /// were. Only refused memory gives an `Err`.
     pub fn into_digits(
         self,
         alloc: Global,

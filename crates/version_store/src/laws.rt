@@ -1,21 +1,23 @@
-//! Laws of versions, over the definitions alone. A caller that calls one of these functions has its law at
-//! hand in its proof; the call costs nothing.
+//! Laws of versions, over the definitions alone. A caller that calls one of these functions has its
+//! law at hand in its proof; the call costs nothing.
 
-ghost use Rattle.version_store.specs.Laws.{ChangesMoveTheHint, EachRunStands, MigratedRecordsStay, UnchangedRowsStay, WidenedRecordsStay};
+ghost use Rattle.version_store.specs.Laws.{ChangesMoveTheHint, EachRunStands, MigratedRecordsStay};
+ghost use Rattle.version_store.specs.Laws.{UnchangedRowsStay, WidenedRecordsStay};
 
-/// A store that stands for a history stands, after any accepted edits, appends and publications, for that
-/// history after them.
+/// A store that stands for a history stands, after any accepted edits, appends and publications,
+/// for that history after them.
 pub fn each_run_stands()
     ensures { EachRunStands }
 {}
 
-/// A row that is not among the rows since a version is the same in that version's SimplePIR hint and in the
-/// current one: so the rows since a version bring its hint forward.
+/// A row that is not among the rows since a version is the same in that version's SimplePIR hint
+/// and in the current one: so the rows since a version bring its hint forward.
 pub fn unchanged_rows_stay()
     ensures { UnchangedRowsStay }
 {}
 
-/// What a store answers of the changes since a version moves that version's SimplePIR hint to the current one.
+/// What a store answers of the changes since a version moves that version's SimplePIR hint to the
+/// current one.
 pub fn changes_move_the_hint()
     ensures { ChangesMoveTheHint }
 {}

@@ -1,9 +1,9 @@
 //! Records in versions, with the hints of the current one kept in place.
 //!
-//! Its tests are in `store_tests::store` and `tests/long/store_tests`.
+//! Its tests are in `tests_store::store` and `tests/long/tests_store`.
 #![tactic(auto)]
 
-mod answer_room;
+mod answer_buffers;
 mod columns;
 mod digit_records;
 mod drafts;
@@ -20,7 +20,7 @@ mod rows;
 mod store;
 mod unopened;
 
-pub use answer_room::AnswerRoom;
+pub use answer_buffers::AnswerBuffers;
 pub use opening::{OpenError, plan_in};
 pub use pir_schemes::{Plan, Scheme};
 pub use simple_scheme::{HintWatcher, Unwatched};

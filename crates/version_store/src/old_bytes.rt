@@ -1,21 +1,24 @@
 //! The bytes that records had before a publication changed them.
 
-ghost use Rattle.std.specs.Prelude.{◌≡◌, ◌≤◌, ◌<◌, ◌*◌, ◌/◌, ◌^◌, ◌++◌, ℕ, [], All, true, length, IfOk, IfSome, OnOk};
+ghost use Rattle.std.specs.Prelude.{◌≡◌, ◌≤◌, ◌<◌, ◌*◌, ◌/◌, ◌^◌, ◌++◌, ℕ, [], All, true, length};
+ghost use Rattle.std.specs.Prelude.{IfOk, IfSome, OnOk};
 ghost use Rattle.digit_pack.specs.Layout.{digit_rows, record_at};
 ghost use Rattle.pir_schemes.specs.Plans.{fits, slot, slots};
 ghost use Rattle.record_log.specs.OldRecords.{OldBytes, OldRecord};
 ghost use Rattle.version_store.specs.Drafts.{draft_of, grown_to, FitRecords};
 ghost use Rattle.version_store.specs.Editions.{Records, grown};
-ghost use Rattle.version_store.specs.OldRecords.{AddsOld, olds_between, slots_with_blanks, with_newest};
+ghost use Rattle.version_store.specs.OldRecords.{AddsOld, olds_between, slots_with_blanks};
+ghost use Rattle.version_store.specs.OldRecords.{with_newest};
 
 use crate::drafts::{Changes, first_change};
-use crate::first_layer::{FirstLayer, slot_room};
-use digit_pack::Layout;
+use crate::first_layer::FirstLayer;
+use digit_pack::{Layout, record_buffer};
 use record_log::{OldRecords, RecordLog};
 use std::alloc::{AllocError, Global};
 
-/// The records that changes replace by others, with the bytes that they have in the digits before that: those that are appended are
-/// blanks. There are `count` records with them. Only refused memory gives an `Err`.
+/// The records that changes replace by others, with the bytes that they have in the digits before
+/// that: those that are appended are blanks. There are `count` records with them. Only refused
+/// memory gives an `Err`.
 pub fn old_bytes(
     alloc: Global,
     layer: &FirstLayer,
@@ -53,12 +56,13 @@ fn push_old(
     requires few { i < 2 ^ 32 }
     requires fits { fits layer.now.plan bytes.now ≡ true }
     ensures { (count : ℕ) → length layer.now.records ≤ count → i < count →
-        OnOk result (AddsOld i (record_at (slots_with_blanks layer.now.plan count layer.now.records) i)
+        OnOk result (AddsOld i
+        (record_at (slots_with_blanks layer.now.plan count layer.now.records) i)
         (slot layer.now.plan bytes.now) olds.old olds.new) }
 {
     let len = layer.layout().record_len();
-    let mut room = slot_room();
-    let mut other = slot_room();
+    let mut room = record_buffer();
+    let mut other = record_buffer();
     let old = &mut room[..len];
     let new = &mut other[..len];
     copy_old(layer, i, old);
@@ -69,7 +73,8 @@ fn push_old(
     olds.push(i as u32, old)
 }
 
-// Writes the bytes that record i has in the digits into `out`, whatever it held: zeros, if there is no such record yet.
+// Writes the bytes that record i has in the digits into `out`, whatever it held: zeros, if there is
+// no such record yet.
 fn copy_old(layer: &FirstLayer, i: usize, out: &mut [u8])
     requires room { length out.old ≡ layer.now.plan.record_len }
     ensures { (count : ℕ) → length layer.now.records ≤ count → i < count →

@@ -15,8 +15,8 @@ use thiserror::Error;
 /// Why a store can't be opened: the first cause in the order of the variants.
 #[derive(Clone, Copy, Debug, PartialEq, Eq, Error)]
 pub enum OpenError {
-    /// There is no such form, or it is 2 for records of one byte; the layout is refused, or the dimension is not in 1 to
-    /// 1024.
+    /// There is no such form, or it is 2 for records of one byte; the layout is refused, or the
+    /// dimension is not in 1 to 1024.
     #[error("the layout or the dimension is outside the limits")]
     BadLayout,
     /// The version is 0.

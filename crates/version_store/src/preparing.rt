@@ -1,13 +1,15 @@
 //! The answer that is made in steps.
 
-ghost use Rattle.std.specs.Prelude.{◌≡◌, ◌≤◌, ◌<◌, ◌+◌, ◌*◌, ◌⊎◌, ◌↔◌, ℕ, List, IfOk, IfErr, IsTrue, Some, is_ok, length, true};
+ghost use Rattle.std.specs.Prelude.{◌≡◌, ◌≤◌, ◌<◌, ◌+◌, ◌*◌, ◌⊎◌, ◌↔◌, ℕ, List, IfOk, IfErr};
+ghost use Rattle.std.specs.Prelude.{IsTrue, Some, is_ok, length, true};
 ghost use Rattle.matrix_u32.specs.Matrix.{WordMatrix, times_vector};
 ghost use Rattle.digit_pack.specs.Layout.{digit_rows};
 ghost use Rattle.double_scheme.specs.Steps.{HasFirst};
 ghost use Rattle.pir_schemes.specs.Plans.{digits_at};
 ghost use Rattle.pir_schemes.specs.Retrievals.{query_count};
 ghost use Rattle.version_store.specs.Editions.{Records, IsMadeTwice, version_shape};
-ghost use Rattle.version_store.specs.Preparing.{GivesAnswer, IsAllMade, IsMakingFor, IsPrepared, amount_made, scheme_made};
+ghost use Rattle.version_store.specs.Preparing.{GivesAnswer, IsAllMade, IsMakingFor, IsPrepared};
+ghost use Rattle.version_store.specs.Preparing.{amount_made, scheme_made};
 
 use crate::first_layer::{Digits, FirstLayer};
 use digit_pack::Layout;
@@ -62,8 +64,8 @@ impl Preparation {
         }
     }
 
-    /// The same with one more step made, and whether none is left. There is more of the answer after each step, so that they come to an
-    /// end.
+    /// The same with one more step made, and whether none is left. There is more of the answer
+    /// after each step, so that they come to an end.
     pub(crate) fn stepped<K: Kernel>(
         self,
         kernel: K,
@@ -114,7 +116,8 @@ impl Preparation {
         Err(Some(self))
     }
 
-    /// The answer to the query that was begun, if it is whole and of this scheme; else what was begun.
+    /// The answer to the query that was begun, if it is whole and of this scheme; else what was
+    /// begun.
     fn into_whole(self, scheme: Scheme) -> Result<Vec<u32>, Option<Preparation>>
         ensures answer { (e : Records) → IsMakingFor e self.query.items self.making →
             GivesAnswer e scheme self.query.items result }

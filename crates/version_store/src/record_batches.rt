@@ -8,12 +8,14 @@ use snapshot_file::RecordSink;
 use std::alloc::{AllocError, Global};
 use std::marker::Model;
 
-/// Of how many columns records wait: as many as have their digits, three in a word of four bytes, in one line of a processor's cache.
+/// Of how many columns records wait: as many as have their digits, three in a word of four bytes,
+/// in one line of a processor's cache.
 const COLUMNS: usize = 48;
 
-/// The first records of a layout, kept in its digits alone but for the last that came. Those wait as bytes until some columns are full:
-/// records that come one after another stand below one another, each digit in another row, and to write some columns takes hardly more
-/// time than to write one. A contract sees it as the layout and the records' bytes.
+/// The first records of a layout, kept in its digits alone but for the last that came. Those wait
+/// as bytes until some columns are full: records that come one after another stand below one
+/// another, each digit in another row, and to write some columns takes hardly more time than to
+/// write one. A contract sees it as the layout and the records' bytes.
 #[derive(Drop)]
 pub struct RecordBatches {
     kept: DigitRecords,

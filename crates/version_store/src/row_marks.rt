@@ -1,6 +1,7 @@
 //! Marks of rows of digits.
 
-ghost use Rattle.std.specs.Prelude.{◌≡◌, ◌≤◌, ◌+◌, ◌^◌, ◌++◌, ℕ, false, length, vec_len, vec_capacity, IfOk};
+ghost use Rattle.std.specs.Prelude.{◌≡◌, ◌≤◌, ◌+◌, ◌^◌, ◌++◌, ℕ, false, length, vec_len};
+ghost use Rattle.std.specs.Prelude.{vec_capacity, IfOk};
 ghost use Rattle.digit_pack.specs.Layout.{digit_rows};
 ghost use Rattle.version_store.specs.Editions.{is_marked, marked_rows};
 
@@ -15,7 +16,8 @@ pub fn marks_for(alloc: Global, layout: &Layout) -> Result<Vec<bool>, AllocError
     vec![in alloc; false; layout.rows()]
 }
 
-/// Adds the rows that are marked, ascending, to `rows`, which has room for them. It takes no memory.
+/// Adds the rows that are marked, ascending, to `rows`, which has room for them. It takes no
+/// memory.
 pub fn push_marked(marks: &[bool], rows: &mut Vec<u32>)
     requires few { length marks.now ≤ 2 ^ 32 }
     requires room { vec_len rows.old + length marks.now ≤ vec_capacity rows.old }

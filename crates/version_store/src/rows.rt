@@ -1,46 +1,48 @@
 //! The hints of DoublePIR, after the rows of digits that changed.
 
-ghost use Rattle.std.specs.Prelude.{◌≡◌, ◌-◌, ◌*◌, ◌<◌, ◌≤◌, IfOk, filter, length, max, min, vec_capacity};
+ghost use Rattle.std.specs.Prelude.{◌≡◌, ◌-◌, ◌*◌, ◌<◌, ◌≤◌, IfOk, filter, length, max, min};
+ghost use Rattle.std.specs.Prelude.{vec_capacity};
 ghost use Rattle.std.specs.List.{range_with_len};
 ghost use Rattle.lane_kernels.specs.Digit.{split_count};
 ghost use Rattle.version_store.specs.Editions.{FollowsRows, is_marked};
-ghost use Rattle.version_store.specs.Rooms.{IsRoomForRows};
+ghost use Rattle.version_store.specs.Buffers.{IsRoomForRows};
 
 use digit_pack::DigitStore;
-use hint_update::{RowsRoom, update_double_rows};
+use hint_update::{RowsBuffers, update_double_rows};
 use matrix_u32::{Kernel, Matrix};
 use std::alloc::{AllocError, Global};
 
-/// How many changed rows are taken together: as many as keep their rows of the second public matrix near the processor
-/// while the client's hint passes once for all of them.
-const NEAR_ROWS: usize = 128;
+/// How many changed rows are taken together: as many as keep their rows of the second public matrix
+/// near the processor while the client's hint passes once for all of them.
+const ROWS_TOGETHER: usize = 128;
 
 /// Memory for the changed rows that are taken together: their numbers, and what their update wants.
 #[derive(Drop)]
-pub struct FollowRoom {
+pub struct FollowBuffers {
     pub listed: Vec<usize>,
-    pub rows: RowsRoom,
+    pub rows: RowsBuffers,
 }
 
-impl FollowRoom {
-    /// Memory for changes of at most so many rows, in a hint with so many columns, of digits of w bits: for all of them together, or
-    /// for 128 where there are more. Only refused memory gives an `Err`.
-    pub fn new(alloc: Global, rows: usize, cols: usize, w: u32) -> Result<FollowRoom, AllocError>
+impl FollowBuffers {
+    /// Memory for changes of at most so many rows, in a hint with so many columns, of digits of w
+    /// bits: for all of them together, or for 128 where there are more. Only refused memory gives
+    /// an `Err`.
+    pub fn new(alloc: Global, rows: usize, cols: usize, w: u32) -> Result<FollowBuffers, AllocError>
         requires cols { cols ≤ 1024 }
         requires width { (6 ≤ w) × (w ≤ 10) }
         ensures rows { IfOk result (λ room. room.rows.public.rows ≡ max (min rows 128) 1) }
         ensures room { IfOk result (IsRoomForRows cols) }
     {
-        let most = NEAR_ROWS.min(rows).max(1);
+        let most = ROWS_TOGETHER.min(rows).max(1);
         let listed = Vec::with_capacity(alloc, most)?;
-        let rows = RowsRoom::new(alloc, most, cols, w)?;
-        Ok(FollowRoom { listed, rows })
+        let rows = RowsBuffers::new(alloc, most, cols, w)?;
+        Ok(FollowBuffers { listed, rows })
     }
 }
 
-/// Changes both hints of DoublePIR by the rows that are marked, each once, where `hint` is the hint of the
-/// changed digits. Nothing is multiplied for the other rows. Marked rows are taken together, wherever they stand, up to 128 of
-/// them at a time.
+/// Changes both hints of DoublePIR by the rows that are marked, each once, where `hint` is the hint
+/// of the changed digits. Nothing is multiplied for the other rows. Marked rows are taken together,
+/// wherever they stand, up to 128 of them at a time.
 pub fn follow_rows<K: Kernel, S: DigitStore>(
     kernel: K,
     hint: &Matrix,
@@ -49,7 +51,7 @@ pub fn follow_rows<K: Kernel, S: DigitStore>(
     server: &mut S,
     client: &mut Matrix,
     marks: &[bool],
-    room: &mut FollowRoom,
+    room: &mut FollowBuffers,
 )
     requires width { (6 ≤ w) × (w ≤ 10) }
     requires marks { length marks.now ≡ hint.now.rows }
@@ -80,8 +82,8 @@ pub fn follow_rows<K: Kernel, S: DigitStore>(
     }
 }
 
-// Lists the rows that are marked from row `from` on, ascending, at most `most` of them, and answers the row before which it
-// stopped.
+// Lists the rows that are marked from row `from` on, ascending, at most `most` of them, and answers
+// the row before which it stopped.
 fn list_marked(marks: &[bool], from: usize, most: usize, listed: &mut Vec<usize>) -> usize
     requires from { from < length marks.now }
     requires some { 0 < most }

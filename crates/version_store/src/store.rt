@@ -1,8 +1,11 @@
 //! The store: the current version, a draft, and their publication.
 
-ghost use Rattle.std.specs.Prelude.{All, ℕ, List, ◌≡◌, ◌≢◌, ◌+◌, ◌*◌, ◌^◌, ◌<◌, ◌≤◌, ◌↔◌, length, true, false, OnOk, OnErr, IfErr, IfOk, IfSome, IfNone, IsNone, IsSome, option_map, take, slice_set, IsErrOf, IsTrue};
+ghost use Rattle.std.specs.Prelude.{All, ℕ, List, ◌≡◌, ◌≢◌, ◌+◌, ◌*◌, ◌^◌, ◌<◌, ◌≤◌, ◌↔◌, length};
+ghost use Rattle.std.specs.Prelude.{true, false, OnOk, OnErr, IfErr, IfOk, IfSome, IfNone, IsNone};
+ghost use Rattle.std.specs.Prelude.{IsSome, option_map, take, slice_set, IsErrOf, IsTrue};
 ghost use Rattle.matrix_u32.specs.Matrix.{row};
-ghost use Rattle.digit_pack.specs.Layout.{is_wide, digits_per_record, digit_rows, is_layout, record_at, records_in};
+ghost use Rattle.digit_pack.specs.Layout.{is_wide, digits_per_record, digit_rows, is_layout};
+ghost use Rattle.digit_pack.specs.Layout.{record_at, records_in};
 ghost use Rattle.digit_pack.specs.Packed.{packed};
 ghost use Rattle.pir_schemes.specs.Plans.{IsPlan, fits, records_held, shape_at, slots, digits_at};
 ghost use Rattle.digit_pack.specs.Slots.{is_form};
@@ -12,25 +15,30 @@ ghost use Rattle.hint_update.specs.Logs.{ReachesBack, lists_since, AreRowsOf};
 ghost use Rattle.version_store.specs.Editions.{version_shape};
 ghost use Rattle.snapshot_file.specs.Snapshots.{header_of, shape_of, snapshot_bytes};
 ghost use Rattle.version_store.specs.HeldRecords.{bytes_held_by};
-ghost use Rattle.version_store.specs.Openings.{IsSound, IsOpenFault, IsRead, held_of, plan_held, records_for, header_of_held, bytes_of_records, snapshot_of};
+ghost use Rattle.version_store.specs.Openings.{IsSound, IsOpenFault, IsRead, held_of, plan_held};
+ghost use Rattle.version_store.specs.Openings.{records_for, header_of_held, bytes_of_records};
+ghost use Rattle.version_store.specs.Openings.{snapshot_of};
 ghost use Rattle.version_store.specs.HeldFor.{IsHeldFor};
-ghost use Rattle.version_store.specs.Rooms.{scheme_answered, IsAnswerRoom};
+ghost use Rattle.version_store.specs.Buffers.{scheme_answered, IsAnswerBuffers};
 ghost use Rattle.std.specs.Io.KnownBytes.{Appends, Consumes, IsAtEnd};
 ghost use Rattle.snapshot_file.specs.declared.snapshot.Header.{Header};
 ghost use Rattle.snapshot_file.specs.Verdicts.{MayRefuse, StopsReadingAt};
-ghost use Rattle.version_store.specs.Histories.{StoreState, History, StandsFor, opened, after_edit, after_append, published, undrafted, held_edited, held_appended, held_published, without_draft, delta_rows, kept_log, changes_since, reaches_olds};
+ghost use Rattle.version_store.specs.Histories.{StoreState, History, StandsFor, opened, after_edit};
+ghost use Rattle.version_store.specs.Histories.{after_append, published, undrafted, held_edited};
+ghost use Rattle.version_store.specs.Histories.{held_appended, held_published, without_draft};
+ghost use Rattle.version_store.specs.Histories.{delta_rows, kept_log, changes_since, reaches_olds};
 ghost use Rattle.version_store.specs.OldRecords.{draft_olds};
 ghost use Rattle.version_store.specs.DraftChanges.{IsNextChange, HasNoChange};
 ghost use Rattle.version_store.specs.Names.{append_fault_name, edit_fault_name, publish_fault_name};
 
-use crate::answer_room::AnswerRoom;
+use crate::answer_buffers::AnswerBuffers;
 use crate::drafts::{Changes, first_change};
 use crate::edition::Edition;
 use crate::held_records::HeldRecords;
 use crate::old_bytes::{keep_olds, old_bytes, olds_log};
 use crate::opening::{OpenError, plan_of, sizes_of};
 use crate::row_marks::{marks_for, push_marked};
-use crate::rows::FollowRoom;
+use crate::rows::FollowBuffers;
 use crate::unopened::Opening;
 use digit_pack::{Layout, is_wide};
 use hint_update::DeltaLog;
@@ -161,12 +169,12 @@ impl From<AllocError> for PublishError {
     }
 }
 
-/// The current version of the records, with its hints, the draft of the next, and a log of the rows of
-/// digits that the latest publications changed.
+/// The current version of the records, with its hints, the draft of the next, and a log of the rows
+/// of digits that the latest publications changed.
 ///
-/// The draft is kept as its changes alone, with the count of its records: those appended are changes of blanks after the
-/// records of the version. Contracts see a store as what it holds, `StoreState`, and say what a
-/// call does to every history that the store stands for.
+/// The draft is kept as its changes alone, with the count of its records: those appended are
+/// changes of blanks after the records of the version. Contracts see a store as what it holds,
+/// `StoreState`, and say what a call does to every history that the store stands for.
 #[derive(Drop)]
 pub struct Store<K: Kernel> {
     alloc: Global,
@@ -200,13 +208,13 @@ impl<K: Kernel> Model for Store<K> {
 }
 
 impl<K: Kernel> Store<K> {
-    /// The store of a snapshot's records, with an empty draft; its hints are made by the schemes' `setup`. The
-    /// store keeps the allocator.
+    /// The store of a snapshot's records, with an empty draft; its hints are made by the schemes'
+    /// `setup`. The store keeps the allocator.
     ///
-    /// `BadLayout` exactly when there is no such form, or it is 2 for records of one byte, the layout is refused or the
-    /// dimension is not in 1 to 1024; else `BadVersion` exactly when the version is 0; else `BadRecords` exactly when
-    /// the bytes are not as many as the records have, or in form 2 those of a record are no slot; else it is opened, or
-    /// `Memory`.
+    /// `BadLayout` exactly when there is no such form, or it is 2 for records of one byte, the
+    /// layout is refused or the dimension is not in 1 to 1024; else `BadVersion` exactly when the
+    /// version is 0; else `BadRecords` exactly when the bytes are not as many as the records have,
+    /// or in form 2 those of a record are no slot; else it is opened, or `Memory`.
     pub fn open(alloc: Global, kernel: K, snapshot: Snapshot) -> Result<Store<K>, OpenError>
         ensures held { IfOk result (λ s. s ≡ held_of (header_of snapshot) snapshot.records.items) }
         ensures history { IfOk result
@@ -224,8 +232,9 @@ impl<K: Kernel> Store<K> {
         Ok(Store::hold(alloc, kernel, &header, held, &mut Unwatched)?)
     }
 
-    /// The store of the records that are held for the fields of a snapshot, with an empty draft; its hints are made by the schemes'
-    /// `setup`, watched while their rows are made. The store keeps the allocator. Only refused memory gives an `Err`.
+    /// The store of the records that are held for the fields of a snapshot, with an empty draft;
+    /// its hints are made by the schemes' `setup`, watched while their rows are made. The store
+    /// keeps the allocator. Only refused memory gives an `Err`.
     pub(crate) fn hold<W: HintWatcher>(
         alloc: Global,
         kernel: K,
@@ -256,19 +265,20 @@ impl<K: Kernel> Store<K> {
         })
     }
 
-    /// The store of the snapshot that a reader has, which must be the whole input, and the snapshot's digest, by which a log of
-    /// publications names it. The store keeps the allocator.
+    /// The store of the snapshot that a reader has, which must be the whole input, and the
+    /// snapshot's digest, by which a log of publications names it. The store keeps the allocator.
     ///
     /// # Errors
     ///
-    /// Those of `read_snapshot`, each with the byte that makes it; nothing else keeps a snapshot that was read from being opened but
-    /// `Memory`.
+    /// Those of `read_snapshot`, each with the byte that makes it; nothing else keeps a snapshot
+    /// that was read from being opened but `Memory`.
     pub fn open_from<R: Read>(
         alloc: Global,
         kernel: K,
         reader: &mut R,
     ) -> Result<(Store<K>, [u8; 32]), SnapshotFault>
-        ensures read { IfOk result (λ s. (h : Header) × (records : List ℕ) × IsRead h records s.0 s.1
+        ensures read { IfOk result (λ s. (h : Header) × (records : List ℕ)
+            × IsRead h records s.0 s.1
             × Consumes (R.remaining reader.old) (R.remaining reader.new) (snapshot_bytes h records)
             × IsAtEnd (R.remaining reader.new)) }
         ensures history { IfOk result
@@ -302,8 +312,9 @@ impl<K: Kernel> Store<K> {
         }
     }
 
-    /// The bytes that all records of the current version of an ordinary store have in the digits, record 0 first: in form 2 those of their
-    /// slots. A wide store keeps no bytes beside its digits; [`Store::copy_record`] reads a record of either kind.
+    /// The bytes that all records of the current version of an ordinary store have in the digits,
+    /// record 0 first: in form 2 those of their slots. A wide store keeps no bytes beside its
+    /// digits; [`Store::copy_record`] reads a record of either kind.
     pub fn bytes(&self) -> &[u8]
         requires { is_wide self.now.edition.plan.form ≡ false }
         ensures { result.now ≡
@@ -312,7 +323,8 @@ impl<K: Kernel> Store<K> {
         self.edition.bytes()
     }
 
-    /// How many bytes all records of the current version have in the digits: in forms of slots those of their slots.
+    /// How many bytes all records of the current version have in the digits: in forms of slots
+    /// those of their slots.
     pub fn bytes_len(&self) -> usize
         ensures value { result ≡
             length (bytes_of_records (slots self.now.edition.plan self.now.edition.records)) }
@@ -386,8 +398,9 @@ impl<K: Kernel> Store<K> {
         self.edition.record(i)
     }
 
-    /// Writes the bytes of record i in the current version to the beginning of `out`, and answers how many they are: in forms of slots
-    /// fewer than `out` has, and after them anything may follow. It takes no memory.
+    /// Writes the bytes of record i in the current version to the beginning of `out`, and answers
+    /// how many they are: in forms of slots fewer than `out` has, and after them anything may
+    /// follow. It takes no memory.
     pub fn copy_record(&self, i: usize, out: &mut [u8]) -> usize
         requires index { i < length self.now.edition.records }
         requires room { length out.old ≡ self.now.edition.plan.record_len }
@@ -406,8 +419,8 @@ impl<K: Kernel> Store<K> {
         pir_schemes::query_count(scheme, self.edition.layout())
     }
 
-    /// Part `part` of a scheme's hint of the current version: its words from 65,536 part on, row by row, at
-    /// most 65,536 of them. `None` exactly when there is no such part.
+    /// Part `part` of a scheme's hint of the current version: its words from 65,536 part on, row by
+    /// row, at most 65,536 of them. `None` exactly when there is no such part.
     pub fn hint_words(&self, scheme: Scheme, part: usize) -> Option<&[u32]>
         ensures none { IsNone result ↔
             (length (hint_matrix scheme self.now.edition.plan self.now.edition.records).words ≤
@@ -429,9 +442,9 @@ impl<K: Kernel> Store<K> {
         self.edition.hint(Scheme::Simple).row(r)
     }
 
-    /// The digits of the current version as they are kept, three in a word: row by row, a row in as many words as
-    /// its digits divided by 3, rounded up; digit 3 t + u of a row stands in bits 10 u to 10 u + 9 of its word
-    /// t, and the other bits are 0. It takes no memory.
+    /// The digits of the current version as they are kept, three in a word: row by row, a row in as
+    /// many words as its digits divided by 3, rounded up; digit 3 t + u of a row stands in bits 10
+    /// u to 10 u + 9 of its word t, and the other bits are 0. It takes no memory.
     pub fn digit_words(&self) -> &[u32]
         ensures { result.now ≡
             packed (digits_at self.now.edition.plan self.now.edition.records) }
@@ -439,8 +452,8 @@ impl<K: Kernel> Store<K> {
         self.edition.digit_words()
     }
 
-    /// DoublePIR's server hint of the current version, kept and lent in the same way: κ n rows of digits, one
-    /// digit of a row for each row of the records' digits. It takes no memory.
+    /// DoublePIR's server hint of the current version, kept and lent in the same way: κ n rows of
+    /// digits, one digit of a row for each row of the records' digits. It takes no memory.
     pub fn server_words(&self) -> &[u32]
         ensures { result.now ≡
             packed (server_hint self.now.edition.plan self.now.edition.records) }
@@ -448,13 +461,13 @@ impl<K: Kernel> Store<K> {
         self.edition.server_words()
     }
 
-    /// The rows of digits, ascending, in which some two consecutive versions from `version` to the current one
-    /// differ: a SimplePIR hint of that version is brought forward by these rows of the current hint. None
-    /// are in the list where `version` is the current one, or where every publication since left the digits
-    /// as they were.
+    /// The rows of digits, ascending, in which some two consecutive versions from `version` to the
+    /// current one differ: a SimplePIR hint of that version is brought forward by these rows of the
+    /// current hint. None are in the list where `version` is the current one, or where every
+    /// publication since left the digits as they were.
     ///
-    /// `None` exactly when `version` is neither the current one nor one of the 16 before it that this store
-    /// has seen. Only refused memory gives an `Err`.
+    /// `None` exactly when `version` is neither the current one nor one of the 16 before it that
+    /// this store has seen. Only refused memory gives an `Err`.
     pub fn delta_since(&self, version: u64) -> Result<Option<Vec<u32>>, AllocError>
         ensures none { IfOk result (λ found. IsNone found ↔
             ¬ ReachesBack (kept_log self.now) version) }
@@ -468,12 +481,14 @@ impl<K: Kernel> Store<K> {
         self.log.rows_since(version)
     }
 
-    /// What differs between an earlier version and the current one, as entries: of each record that differs its index in four bytes,
-    /// the bytes that it had in the digits and those that it has, ascending. A record that was appended since had a blank. Only a wide
-    /// store keeps what it needs for this.
+    /// What differs between an earlier version and the current one, as entries: of each record that
+    /// differs its index in four bytes, the bytes that it had in the digits and those that it has,
+    /// ascending. A record that was appended since had a blank. Only a wide store keeps what it
+    /// needs for this.
     ///
-    /// `None` if the version is neither the current one nor one of the 16 before it, or old bytes since then were dropped, or the
-    /// entries have more than `most` bytes. Only refused memory gives an `Err`.
+    /// `None` if the version is neither the current one nor one of the 16 before it, or old bytes
+    /// since then were dropped, or the entries have more than `most` bytes. Only refused memory
+    /// gives an `Err`.
     pub fn changes_since(&self, version: u64, most: usize) -> Result<Option<Vec<u8>>, AllocError>
         ensures history { (h : History) → StandsFor self.now h → IfOk result (λ made.
             option_map (λ v. v.items) made ≡ changes_since self.now.edition.plan h version most) }
@@ -503,14 +518,14 @@ impl<K: Kernel> Store<K> {
         Some((now - version) as usize)
     }
 
-    /// Memory for the answer to a scheme's query on the current version. It is taken by sizes alone, before a
-    /// query is looked at. Only refused memory gives an `Err`.
-    pub fn answer_room(&self, scheme: Scheme) -> Result<AnswerRoom, AllocError>
+    /// Memory for the answer to a scheme's query on the current version. It is taken by sizes
+    /// alone, before a query is looked at. Only refused memory gives an `Err`.
+    pub fn answer_buffers(&self, scheme: Scheme) -> Result<AnswerBuffers, AllocError>
         ensures scheme { IfOk result (λ room. scheme_answered room ≡ scheme) }
         ensures sizes { IfOk result (λ room.
-            IsAnswerRoom (version_shape self.now.edition) self.now.edition.plan.dimension room) }
+            IsAnswerBuffers (version_shape self.now.edition) self.now.edition.plan.dimension room) }
     {
-        self.edition.answer_room(self.alloc, scheme)
+        self.edition.answer_buffers(self.alloc, scheme)
     }
 
     /// Whether an answer of a scheme is so long that it is made in more than one step.
@@ -518,8 +533,9 @@ impl<K: Kernel> Store<K> {
         self.edition.has_steps(scheme)
     }
 
-    /// Begins the answer to the words of a query on the current version, which [`Store::step_answer`] makes step by step, and gives up
-    /// another one that was begun. Contracts see nothing of it. Only refused memory gives an `Err`, and then none is begun.
+    /// Begins the answer to the words of a query on the current version, which
+    /// [`Store::step_answer`] makes step by step, and gives up another one that was begun.
+    /// Contracts see nothing of it. Only refused memory gives an `Err`, and then none is begun.
     pub fn begin_answer(&mut self, scheme: Scheme, words: Vec<u32>) -> Result<(), AllocError>
         requires { length words.items ≡ query_count scheme (version_shape self.old.edition) }
         ensures { self.new ≡ self.old }
@@ -527,15 +543,17 @@ impl<K: Kernel> Store<K> {
         self.edition.begin_answer(self.alloc, scheme, words)
     }
 
-    /// Makes one more step of the answer that was begun, and answers whether there is none left to make: also when no answer was
-    /// begun, or it was given up since the version has changed. It takes no memory.
+    /// Makes one more step of the answer that was begun, and answers whether there is none left to
+    /// make: also when no answer was begun, or it was given up since the version has changed. It
+    /// takes no memory.
     pub fn step_answer(&mut self) -> bool
         ensures { self.new ≡ self.old }
     {
         self.edition.step_answer()
     }
 
-    /// The answer that was begun, if all its steps were made and it is the one to these words on the current version. It is given once.
+    /// The answer that was begun, if all its steps were made and it is the one to these words on
+    /// the current version. It is given once.
     pub fn take_answer(&mut self, scheme: Scheme, words: &[u32]) -> Option<Vec<u32>>
         ensures same { self.new ≡ self.old }
         ensures answer { IfSome result (λ answer. answer.items ≡ answer_words scheme
@@ -551,26 +569,28 @@ impl<K: Kernel> Store<K> {
         self.edition.drop_answer();
     }
 
-    /// The answer to the words of a query on the current version, in the scheme that the room is for. It takes no
-    /// memory.
-    pub fn answer_in(&self, room: AnswerRoom, words: &[u32]) -> Vec<u32>
+    /// The answer to the words of a query on the current version, in the scheme that the room is
+    /// for. It takes no memory.
+    pub fn answer_in(&self, room: AnswerBuffers, words: &[u32]) -> Vec<u32>
         requires words { length words.now ≡
             query_count (scheme_answered room) (version_shape self.now.edition) }
-        requires sizes { IsAnswerRoom (version_shape self.now.edition) self.now.edition.plan.dimension room }
+        requires sizes { IsAnswerBuffers (version_shape self.now.edition)
+            self.now.edition.plan.dimension room }
         ensures { result.items ≡ answer_words (scheme_answered room) self.now.edition.plan
             self.now.edition.records words.now }
     {
         self.edition.answer_in(room, words)
     }
 
-    /// The answer to the words of a scheme's query on the current version. Only refused memory gives an
-    /// `Err`, and then no word was looked at.
+    /// The answer to the words of a scheme's query on the current version. Only refused memory
+    /// gives an `Err`, and then no word was looked at.
     pub fn answer(&self, scheme: Scheme, words: &[u32]) -> Result<Vec<u32>, AllocError>
         requires { length words.now ≡ query_count scheme (version_shape self.now.edition) }
         ensures { IfOk result (λ v.
-            v.items ≡ answer_words scheme self.now.edition.plan self.now.edition.records words.now) }
+            v.items ≡ answer_words scheme self.now.edition.plan self.now.edition.records
+            words.now) }
     {
-        let room = self.answer_room(scheme)?;
+        let room = self.answer_buffers(scheme)?;
         Ok(self.answer_in(room, words))
     }
 
@@ -584,7 +604,8 @@ impl<K: Kernel> Store<K> {
         self.answer(Scheme::Simple, words)
     }
 
-    /// The answer to the words of a DoublePIR query: κ n words, and κ (n + 1) for each digit of a record.
+    /// The answer to the words of a DoublePIR query: κ n words, and κ (n + 1) for each digit of a
+    /// record.
     pub fn answer_double(&self, words: &[u32]) -> Result<Vec<u32>, AllocError>
         requires { length words.now ≡ query_count Scheme.Double (version_shape self.now.edition) }
         ensures { IfOk result (λ v.
@@ -594,11 +615,11 @@ impl<K: Kernel> Store<K> {
         self.answer(Scheme::Double, words)
     }
 
-    /// Replaces record i of the draft: no reader sees it before its publication, and a later edit of the
-    /// same record replaces it.
+    /// Replaces record i of the draft: no reader sees it before its publication, and a later edit
+    /// of the same record replaces it.
     ///
-    /// `BadIndex` exactly when the draft has no record i; else `BadLength` exactly when the bytes can't be a
-    /// record; else it is accepted, or `Memory`. A refused edit changes nothing.
+    /// `BadIndex` exactly when the draft has no record i; else `BadLength` exactly when the bytes
+    /// can't be a record; else it is accepted, or `Memory`. A refused edit changes nothing.
     pub fn edit(&mut self, i: usize, bytes: &[u8]) -> Result<(), EditError>
         ensures accepted { OnOk result (self.new ≡ held_edited i bytes.now self.old) }
         ensures history { OnOk result ((h : History) →
@@ -628,11 +649,12 @@ impl<K: Kernel> Store<K> {
         i < self.count
     }
 
-    /// Puts a record after those of the draft: no reader sees it before its publication, and until then it can be
-    /// edited like any other.
+    /// Puts a record after those of the draft: no reader sees it before its publication, and until
+    /// then it can be edited like any other.
     ///
-    /// `BadLength` exactly when the bytes can't be a record; else `Full` exactly when no layout has one record more than
-    /// the draft; else it is accepted, or `Memory`. A refused append changes nothing.
+    /// `BadLength` exactly when the bytes can't be a record; else `Full` exactly when no layout has
+    /// one record more than the draft; else it is accepted, or `Memory`. A refused append changes
+    /// nothing.
     pub fn append(&mut self, bytes: &[u8]) -> Result<(), AppendError>
         ensures accepted { OnOk result (self.new ≡ held_appended bytes.now self.old) }
         ensures history { OnOk result ((h : History) →
@@ -675,9 +697,10 @@ impl<K: Kernel> Store<K> {
         self.edition.plan().fits(bytes)
     }
 
-    /// The first change of the draft at or after a place: the place of a record, and the bytes that it has from the next
-    /// publication on. A place at or past the count of the current version is an append. `None` when there is no such change;
-    /// from place 0 on there is one exactly when an edit or an append was accepted since the last publication.
+    /// The first change of the draft at or after a place: the place of a record, and the bytes that
+    /// it has from the next publication on. A place at or past the count of the current version is
+    /// an append. `None` when there is no such change; from place 0 on there is one exactly when an
+    /// edit or an append was accepted since the last publication.
     pub fn draft_change(&self, from: usize) -> Option<(usize, &[u8])>
         ensures some { IfSome result (λ it. IsNextChange self.now from it.0 it.1.now) }
         ensures none { IfNone result (HasNoChange self.now from) }
@@ -686,14 +709,16 @@ impl<K: Kernel> Store<K> {
         first_change(&self.changes, from)
     }
 
-    /// Whether an edit or an append was accepted since the last publication: so there is something to publish.
+    /// Whether an edit or an append was accepted since the last publication: so there is something
+    /// to publish.
     pub fn is_marked(&self) -> bool
         ensures { result ≡ self.now.marked }
     {
         !self.changes.is_empty()
     }
 
-    /// Drops the draft: no edit and no append that was accepted since the last publication is left of it.
+    /// Drops the draft: no edit and no append that was accepted since the last publication is left
+    /// of it.
     pub fn drop_draft(&mut self)
         ensures dropped { self.new ≡ without_draft self.old }
         ensures history { (h : History) → StandsFor self.old h →
@@ -705,9 +730,10 @@ impl<K: Kernel> Store<K> {
 
     /// Makes the draft the current version, and answers its number.
     ///
-    /// `NothingToPublish` exactly when no edit and no append was accepted since the last publication; else
-    /// `VersionsUsedUp` exactly when the current version is 2^64 - 1; else it is done, or `Memory`. A refused
-    /// publication changes nothing. All memory is asked for before anything changes.
+    /// `NothingToPublish` exactly when no edit and no append was accepted since the last
+    /// publication; else `VersionsUsedUp` exactly when the current version is 2^64 - 1; else it is
+    /// done, or `Memory`. A refused publication changes nothing. All memory is asked for before
+    /// anything changes.
     pub fn publish(&mut self) -> Result<u64, PublishError>
         ensures version { IfOk result (λ v. (v ≡ self.old.version + 1) × (v < 2 ^ 64)) }
         ensures done { OnOk result (self.new ≡ held_published self.old) }
@@ -732,7 +758,7 @@ impl<K: Kernel> Store<K> {
         let mut rows = Vec::with_capacity(self.alloc, layout.rows())?;
         let most = layout.digits_per_record().saturating_mul(changes);
         let changed = layout.rows().min(most);
-        let mut room = FollowRoom::new(self.alloc, changed, self.dimension(), layout.width())?;
+        let mut room = FollowBuffers::new(self.alloc, changed, self.dimension(), layout.width())?;
         self.edition.grow(self.alloc, self.count)?;
         self.edition
             .apply(&mut self.changes, &mut scratch, &mut marks, &mut room);
@@ -754,11 +780,12 @@ impl<K: Kernel> Store<K> {
     }
 }
 
-/// Writes the snapshot of the current version; edits that were not published are not in it. The records of a wide store are read out of
-/// their digits, as many at a time as 64 KiB have; no other memory is taken but the header's.
+/// Writes the snapshot of the current version; edits that were not published are not in it. The
+/// records of a wide store are read out of their digits, as many at a time as 64 KiB have; no other
+/// memory is taken but the header's.
 ///
-/// After `Write`, where a write failed or took no byte, a part of it went out, and not the whole; `Memory`
-/// comes before the first byte.
+/// After `Write`, where a write failed or took no byte, a part of it went out, and not the whole;
+/// `Memory` comes before the first byte.
 pub fn write_snapshot<K: Kernel, W: Write>(
     alloc: Global,
     store: &Store<K>,

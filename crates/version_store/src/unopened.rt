@@ -1,23 +1,24 @@
 //! What a store is opened with: a snapshot that was read to its end, before any hint is made.
 
-ghost use Rattle.std.specs.Prelude.{◌≡◌, ◌≤◌, ◌<◌, ◌+◌, ◌++◌, ◌∷◌, [], ℕ, List, true, IfOk, IfErr, IfSome, OnOk, OnErr, slice_set};
+ghost use Rattle.std.specs.Prelude.{◌≡◌, ◌≤◌, ◌<◌, ◌+◌, ◌++◌, ◌∷◌, [], ℕ, List, true, IfOk, IfErr};
+ghost use Rattle.std.specs.Prelude.{IfSome, OnOk, OnErr, slice_set};
 ghost use Rattle.std.specs.Io.KnownBytes.{Consumes, IsAtEnd};
 ghost use Rattle.sha2.specs.Sha256.{sha256};
 ghost use Rattle.digit_pack.specs.Layout.{IsLayout};
 ghost use Rattle.pir_schemes.specs.Plans.{fits, shape_at};
-ghost use Rattle.snapshot_file.specs.Snapshots.{header_bytes, hashed_bytes, snapshot_bytes, IsHeader, IsAccepted, IsSnapshot};
+ghost use Rattle.snapshot_file.specs.Snapshots.{header_bytes, hashed_bytes, snapshot_bytes};
+ghost use Rattle.snapshot_file.specs.Snapshots.{IsHeader, IsAccepted, IsSnapshot};
 ghost use Rattle.snapshot_file.specs.Verdicts.{MayRefuse, StopsReadingAt};
 ghost use Rattle.version_store.specs.Histories.{StandsFor, opened};
 ghost use Rattle.version_store.specs.HeldRecords.{bytes_held_by};
 ghost use Rattle.version_store.specs.HeldFor.{IsHeldFor};
 ghost use Rattle.version_store.specs.Openings.{IsSound, held_of, plan_held, records_for};
 
-use crate::first_layer::slot_room;
 use crate::held_records::HeldRecords;
 use crate::opening::plan_of;
 use crate::record_batches::RecordBatches;
 use crate::store::Store;
-use digit_pack::is_wide;
+use digit_pack::{is_wide, record_buffer};
 use matrix_u32::Kernel;
 use pir_schemes::Plan;
 use simple_scheme::{HintWatcher, Unwatched};
@@ -28,8 +29,9 @@ use std::alloc::{AllocError, Global};
 use std::io::Read;
 use std::marker::Model;
 
-/// What a store is opened with: a snapshot that was read to its end, with the changes that were made in its records since,
-/// before any hint is made. A wide one keeps its records in their digits alone.
+/// What a store is opened with: a snapshot that was read to its end, with the changes that were
+/// made in its records since, before any hint is made. A wide one keeps its records in their digits
+/// alone.
 #[derive(Drop)]
 pub struct Opening {
     header: Header,
@@ -136,13 +138,14 @@ impl Opening {
         let plan = self.plan();
         // The sizes are within the limits: no refusal is left.
         let layout = self.header.layout().unwrap();
-        let mut room = slot_room();
+        let mut room = record_buffer();
         let slot = &mut room[..usize::from(plan.record_len)];
         plan.fill(bytes, slot);
         self.held.replace(&layout, i, slot);
     }
 
-    /// Puts a record after the last one. Only refused memory gives an `Err`, and then nothing has changed.
+    /// Puts a record after the last one. Only refused memory gives an `Err`, and then nothing has
+    /// changed.
     pub fn append(&mut self, bytes: &[u8]) -> Result<(), AllocError>
         requires fits { fits (plan_held self.old.header) bytes.now ≡ true }
         requires layout { IsLayout (shape_at (plan_held self.old.header)
@@ -157,7 +160,7 @@ impl Opening {
         let count = self.count();
         // There is a layout of one more: no refusal is left.
         let layout = plan.layout(count + 1).unwrap();
-        let mut room = slot_room();
+        let mut room = record_buffer();
         let slot = &mut room[..usize::from(plan.record_len)];
         plan.fill(bytes, slot);
         self.held.push(layout, count, slot)?;
@@ -165,8 +168,8 @@ impl Opening {
         Ok(())
     }
 
-    /// The store of the records, with an empty draft; its hints are made by the schemes' `setup`. The store keeps the
-    /// allocator. Only refused memory gives an `Err`.
+    /// The store of the records, with an empty draft; its hints are made by the schemes' `setup`.
+    /// The store keeps the allocator. Only refused memory gives an `Err`.
     pub fn open<K: Kernel>(self, alloc: Global, kernel: K) -> Result<Store<K>, AllocError>
         ensures held { IfOk result (λ s. s ≡ held_of self.header self.bytes) }
         ensures history { IfOk result (λ s. StandsFor s
@@ -175,7 +178,8 @@ impl Opening {
         self.open_watched(alloc, kernel, &mut Unwatched)
     }
 
-    /// The same store, of which each hint is watched while its rows are made: first SimplePIR's, and then DoublePIR's.
+    /// The same store, of which each hint is watched while its rows are made: first SimplePIR's,
+    /// and then DoublePIR's.
     pub fn open_watched<K: Kernel, W: HintWatcher>(
         self,
         alloc: Global,
@@ -191,7 +195,8 @@ impl Opening {
     }
 }
 
-// Reads what follows an accepted header: in a wide form each record into its digits, some columns at a time.
+// Reads what follows an accepted header: in a wide form each record into its digits, some columns
+// at a time.
 fn read_held<R: Read>(
     alloc: Global,
     reader: &mut R,

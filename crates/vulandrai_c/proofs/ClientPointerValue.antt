@@ -23,8 +23,8 @@ use Rattle.std_alloc.specs.Box.Ownership.{box_owns}
 use Rattle.vulandrai_c.proofs.Fields.{two_words, fields_apart, fields_joined}
 use Rattle.vulandrai_c.specs.ClientHandles.{owned_at}
 use Rattle.vulandrai_c.specs.Handles.{IsThere}
-use Rattle.client_session.specs.declared.ClientSession.{ClientSession}
-use Rattle.client_session.specs.contracts.ClientSession as session
+use Rattle.foreign_sessions.specs.declared.client.ClientSession.{ClientSession}
+use Rattle.foreign_sessions.specs.contracts.client.ClientSession as session
 use Rattle.vulandrai_c.specs.contracts.client_handle.ClientPointer as the
 
 abbrev pub R : RattleType

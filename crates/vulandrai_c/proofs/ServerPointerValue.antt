@@ -23,8 +23,8 @@ use Rattle.std_alloc.specs.Box.Ownership.{box_owns}
 use Rattle.vulandrai_c.proofs.Fields.{two_words, fields_apart, fields_joined}
 use Rattle.vulandrai_c.specs.ServerHandles.{owned_at}
 use Rattle.vulandrai_c.specs.Handles.{IsThere}
-use Rattle.server_session.specs.declared.ServerSession.{ServerSession}
-use Rattle.server_session.specs.contracts.ServerSession as session
+use Rattle.foreign_sessions.specs.declared.server.ServerSession.{ServerSession}
+use Rattle.foreign_sessions.specs.contracts.server.ServerSession as session
 use Rattle.vulandrai_c.specs.contracts.server_handle.ServerPointer as the
 
 abbrev pub R : RattleType

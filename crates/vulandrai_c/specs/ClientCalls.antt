@@ -6,14 +6,14 @@ use Rattle.client_core.specs.declared.state.Event.TheVariants as event
 use Rattle.client_core.specs.declared.state.ServerInfo.{ServerInfo}
 use Rattle.pir_schemes.specs.Plans.{client_profile}
 use Rattle.client_core.specs.States.{fresh_in}
-use Rattle.client_core.specs.Calls.{Want}
+use Rattle.client_core.specs.Calls.{ClientCall}
 use Rattle.hint_file.specs.Files.{plan_bytes}
-use Rattle.client_session.specs.declared.ClientSession.{ClientSession}
-use Rattle.client_session.specs.declared.SessionFault.{SessionFault}
-use Rattle.client_session.specs.declared.FeedFault.{FeedFault}
-use Rattle.client_session.specs.declared.ResumeFault.{ResumeFault}
-use Rattle.client_session.specs.Sessions.{Answers, Feeds, hint_file_of, event_record, record_of, rest}
-use Rattle.client_session.specs.Sessions as session
+use Rattle.foreign_sessions.specs.declared.client.ClientSession.{ClientSession}
+use Rattle.foreign_sessions.specs.declared.client.SessionFault.{SessionFault}
+use Rattle.foreign_sessions.specs.declared.client.FeedFault.{FeedFault}
+use Rattle.foreign_sessions.specs.declared.client.ResumeFault.{ResumeFault}
+use Rattle.foreign_sessions.specs.Clients.{Answers, Feeds, hint_file_of, event_record, record_of, rest}
+use Rattle.foreign_sessions.specs.Clients as session
 use Rattle.vulandrai_c.specs.ClientCodes.{session_code, feed_code, resume_code}
 use Rattle.vulandrai_c.specs.declared.reported.ReportedEvent.{ReportedEvent}
 use Rattle.vulandrai_c.specs.declared.reported.ReportedServer.{ReportedServer}
@@ -23,13 +23,14 @@ abbrev pub IsFresh : Bool → Option ClientSession → List ℕ → ℕ → Type
 IsFresh wide None seed number = ⊥
 IsFresh wide (Some s) seed number = (s.core ≡ record { state = fresh_in (client_profile wide) seed number; reader = Some [] }) × (s.waiting.items ≡ []) × (s.events.items ≡ [])
 
--- what opening did: there is a fresh client; or the number is too large (33), or there is no memory (5), and the handle is as before
+-- what opening did: there is a fresh client; or the number is too large (33), or there is no memory
+-- (5), and the handle is as before
 abbrev pub Opens : Bool → Option ClientSession → List ℕ → ℕ → Option ClientSession → ℕ → Type 0
 Opens wide old seed number new code =
     ((code ≡ 0) × IsFresh wide new seed number) ⊎ ((code ≡ 33) × (2 ^ 62 < number) × (new ≡ old)) ⊎ ((code ≡ 5) × (new ≡ old))
 
 -- what a call of the client did, and the code of its answer
-pub record Calls (old : ClientSession) (want : Want) (new : ClientSession) (code : ℕ) : Type 0 where
+pub record Calls (old : ClientSession) (want : ClientCall) (new : ClientSession) (code : ℕ) : Type 0 where
   pub answer : Result (Unit {0}) SessionFault
   pub code_is : code ≡ session_code answer
   pub did : Answers old want answer new
@@ -45,13 +46,15 @@ abbrev pub waiting_of : Option ClientSession → List ℕ
 waiting_of None = []
 waiting_of (Some s) = s.waiting.items
 
--- all the bytes that waited were taken; or there is room for another number of bytes (35), and nothing changed
+-- all the bytes that waited were taken; or there is room for another number of bytes (35), and
+-- nothing changed
 abbrev pub TakesWaiting : ClientSession → ClientSession → List ℕ → List ℕ → ℕ → Type 0
 TakesWaiting old new before after code =
     ((code ≡ 0) × (after ≡ old.waiting.items) × (new.waiting.items ≡ []) × (new.core ≡ old.core) × (new.events ≡ old.events))
     ⊎ ((code ≡ 35) × (length before ≢ length old.waiting.items) × (after ≡ before) × (new ≡ old))
 
--- the first event's record was copied and the event forgotten; or there is room for another number of bytes (35), and nothing changed
+-- the first event's record was copied and the event forgotten; or there is room for another number
+-- of bytes (35), and nothing changed
 abbrev pub TakesEvent : ClientSession → ClientSession → List ℕ → List ℕ → ℕ → Type 0
 TakesEvent old new before after code =
     ((code ≡ 0) × (after ≡ record_of old.events.items) × (new.events.items ≡ rest old.events.items) × (new.core ≡ old.core)
@@ -63,14 +66,16 @@ abbrev pub hint_file_in : Option ClientSession → List ℕ
 hint_file_in None = []
 hint_file_in (Some s) = hint_file_of s.core.state
 
--- the whole file of the hint held was copied; or there was no memory (5); or there is room for another number of bytes (35)
+-- the whole file of the hint held was copied; or there was no memory (5); or there is room for
+-- another number of bytes (35)
 abbrev pub CopiesHint : ClientSession → List ℕ → List ℕ → ℕ → Type 0
 CopiesHint s before after code =
     ((code ≡ 0) × (after ≡ hint_file_of s.core.state)) ⊎ ((code ≡ 5) × (after ≡ before))
     ⊎ ((code ≡ 35) × (length before ≢ length (hint_file_of s.core.state)) × (after ≡ before))
 
--- what a call for the bytes that say which store the server's is did: the server let no client in yet (1), or there is room for another number of
--- bytes than 41 (35), and nothing was written; or they were written
+-- what a call for the bytes that say which store the server's is did: the server let no client in
+-- yet (1), or there is room for another number of bytes than 41 (35), and nothing was written; or
+-- they were written
 abbrev pub CopiesPlan : Option ServerInfo → List ℕ → List ℕ → ℕ → Type 0
 CopiesPlan None before after code = (code ≡ 1) × (after ≡ before)
 CopiesPlan (Some known) before after code =

@@ -4,12 +4,12 @@ use Rattle.client_core.specs.declared.state.CallFault.{CallFault}
 use Rattle.client_core.specs.declared.state.CallFault.TheVariants as call
 use Rattle.client_core.specs.declared.state.ClientFault.{ClientFault}
 use Rattle.client_core.specs.declared.state.ClientFault.TheVariants as client
-use Rattle.client_session.specs.declared.SessionFault.{SessionFault}
-use Rattle.client_session.specs.declared.SessionFault.TheVariants as session
-use Rattle.client_session.specs.declared.FeedFault.{FeedFault}
-use Rattle.client_session.specs.declared.FeedFault.TheVariants as feed
-use Rattle.client_session.specs.declared.ResumeFault.{ResumeFault}
-use Rattle.client_session.specs.declared.ResumeFault.TheVariants as resume
+use Rattle.foreign_sessions.specs.declared.client.SessionFault.{SessionFault}
+use Rattle.foreign_sessions.specs.declared.client.SessionFault.TheVariants as session
+use Rattle.foreign_sessions.specs.declared.client.FeedFault.{FeedFault}
+use Rattle.foreign_sessions.specs.declared.client.FeedFault.TheVariants as feed
+use Rattle.foreign_sessions.specs.declared.client.ResumeFault.{ResumeFault}
+use Rattle.foreign_sessions.specs.declared.client.ResumeFault.TheVariants as resume
 use Rattle.hint_file.specs.declared.heads.HintError.{HintError}
 use Rattle.hint_file.specs.declared.heads.HintError.TheVariants as hint
 

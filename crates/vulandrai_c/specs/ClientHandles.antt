@@ -5,8 +5,8 @@ use denote.RawPtr.{Ptr}
 use Rattle.std.specs.declared.alloc.Global.{Global}
 use Rattle.std.specs.contracts.impls.GlobalAllocator.TheImpl.{ghosts}
 use Rattle.std_alloc.specs.Box.Ownership.{box_owns}
-use Rattle.client_session.specs.declared.ClientSession.{ClientSession}
-use Rattle.client_session.specs.contracts.ClientSession.{the_row}
+use Rattle.foreign_sessions.specs.declared.client.ClientSession.{ClientSession}
+use Rattle.foreign_sessions.specs.contracts.client.ClientSession.{the_row}
 
 -- what a place owns with an allocator: the box of a client, where there is one
 abbrev pub owned_at : Global → Ptr → Option ClientSession → Fml

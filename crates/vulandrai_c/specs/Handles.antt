@@ -18,7 +18,8 @@ abbrev pub inside : {S : Type 0} → Option (Box S Global) → Option S
 inside None = None
 inside (Some b) = Some b.value
 
--- a call on a handle: a closed one stays closed, and the code is 32; else what it held before and what it holds after are as P says
+-- a call on a handle: a closed one stays closed, and the code is 32; else what it held before and
+-- what it holds after are as P says
 abbrev pub CallsOn : {S : Type 0} → Option S → Option S → ℕ → (S → S → Type 0) → Type 0
 CallsOn None None code P = code ≡ 32
 CallsOn None (Some new) code P = ⊥

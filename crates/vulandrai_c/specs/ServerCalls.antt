@@ -8,9 +8,9 @@ use Rattle.version_store.specs.declared.store.PublishError.{PublishError}
 use Rattle.version_store.specs.Openings.{snapshot_of}
 use Rattle.server_core.specs.declared.server.SessionError.{SessionError}
 use Rattle.server_core.specs.Cores.{session_of}
-use Rattle.server_session.specs.declared.ServerSession.{ServerSession}
-use Rattle.server_session.specs.declared.PieceFault.{PieceFault}
-use Rattle.server_session.specs.Sessions as session
+use Rattle.foreign_sessions.specs.declared.server.ServerSession.{ServerSession}
+use Rattle.foreign_sessions.specs.declared.server.PieceFault.{PieceFault}
+use Rattle.foreign_sessions.specs.Servers as session
 use Rattle.vulandrai_c.specs.ServerCodes.{snapshot_code, opening_code, piece_code, frame_code, edit_code, append_code, publication_code}
 
 -- the server of a snapshot file
@@ -24,7 +24,8 @@ pub record IsRefused (bytes : List ℕ) (code : ℕ) : Type 0 where
   pub code_is : code ≡ snapshot_code fault
   pub refused : MayRefuse fault bytes
 
--- what opening did: there is a server of these bytes; or they are refused, or there is no memory for the server (5), and the handle is as before
+-- what opening did: there is a server of these bytes; or they are refused, or there is no memory
+-- for the server (5), and the handle is as before
 abbrev pub Opens : Option ServerSession → List ℕ → Option ServerSession → ℕ → Type 0
 Opens old bytes new code = ((code ≡ 0) × IsServerOf bytes new) ⊎ (IsRefused bytes code × (new ≡ old)) ⊎ ((code ≡ 5) × (new ≡ old))
 
@@ -34,7 +35,8 @@ pub record OpensSession (old : ServerSession) (id : ℕ) (new : ServerSession) (
   pub code_is : code ≡ opening_code answer
   pub did : session.OpensSession old id answer new
 
--- what closing a session did: the session of this number is gone and no other; the code is 48 where there was none
+-- what closing a session did: the session of this number is gone and no other; the code is 48 where
+-- there was none
 pub record ClosesSession (old : ServerSession) (id : ℕ) (new : ServerSession) (code : ℕ) : Type 0 where
   pub code_is : code ≡ (if is_some (session_of old.core.sessions id) then 0 else 48)
   pub gone : session_of new.core.sessions id ≡ None
@@ -53,7 +55,8 @@ abbrev pub bytes_taken : Result ℕ PieceFault → ℕ
 bytes_taken (Ok taken) = taken
 bytes_taken (Err fault) = 0
 
--- what the first frame of a piece of a session's stream did, how many bytes of the piece were taken, and the code of the answer
+-- what the first frame of a piece of a session's stream did, how many bytes of the piece were
+-- taken, and the code of the answer
 pub record TakesFrame (old : ServerSession) (id : ℕ) (bytes : List ℕ) (taken : ℕ) (new : ServerSession) (code : ℕ) : Type 0 where
   pub answer : Result ℕ PieceFault
   pub code_is : code ≡ frame_code answer
@@ -65,7 +68,8 @@ abbrev pub replies_of : Option ServerSession → List ℕ
 replies_of None = []
 replies_of (Some s) = s.replies.items
 
--- all the replies that waited were taken; or there is room for another number of bytes (35), and nothing changed
+-- all the replies that waited were taken; or there is room for another number of bytes (35), and
+-- nothing changed
 abbrev pub TakesReplies : ServerSession → ServerSession → List ℕ → List ℕ → ℕ → Type 0
 TakesReplies old new before after code =
     ((code ≡ 0) × (after ≡ old.replies.items) × (new.replies.items ≡ []) × (new.core ≡ old.core))
@@ -94,7 +98,8 @@ abbrev pub snapshot_bytes_of : Option ServerSession → List ℕ
 snapshot_bytes_of None = []
 snapshot_bytes_of (Some s) = snapshot_of s.core.store
 
--- the whole snapshot file was copied; or there was no memory (5); or there is room for another number of bytes (35)
+-- the whole snapshot file was copied; or there was no memory (5); or there is room for another
+-- number of bytes (35)
 abbrev pub CopiesSnapshot : ServerSession → List ℕ → List ℕ → ℕ → Type 0
 CopiesSnapshot s before after code =
     ((code ≡ 0) × (after ≡ snapshot_of s.core.store)) ⊎ ((code ≡ 5) × (after ≡ before))

@@ -4,8 +4,8 @@ use Rattle.server_core.specs.declared.server.FeedError.{FeedError}
 use Rattle.server_core.specs.declared.server.FeedError.TheVariants as served
 use Rattle.server_core.specs.declared.server.SessionError.{SessionError}
 use Rattle.server_core.specs.declared.server.SessionError.TheVariants as opening
-use Rattle.server_session.specs.declared.PieceFault.{PieceFault}
-use Rattle.server_session.specs.declared.PieceFault.TheVariants as piece
+use Rattle.foreign_sessions.specs.declared.server.PieceFault.{PieceFault}
+use Rattle.foreign_sessions.specs.declared.server.PieceFault.TheVariants as piece
 use Rattle.snapshot_file.specs.declared.snapshot.SnapshotFault.{SnapshotFault}
 use Rattle.snapshot_file.specs.declared.snapshot.SnapshotFault.TheVariants as snapshot
 use Rattle.version_store.specs.declared.store.EditError.{EditError}

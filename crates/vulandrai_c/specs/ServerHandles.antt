@@ -5,8 +5,8 @@ use denote.RawPtr.{Ptr}
 use Rattle.std.specs.declared.alloc.Global.{Global}
 use Rattle.std.specs.contracts.impls.GlobalAllocator.TheImpl.{ghosts}
 use Rattle.std_alloc.specs.Box.Ownership.{box_owns}
-use Rattle.server_session.specs.declared.ServerSession.{ServerSession}
-use Rattle.server_session.specs.contracts.ServerSession.{the_row}
+use Rattle.foreign_sessions.specs.declared.server.ServerSession.{ServerSession}
+use Rattle.foreign_sessions.specs.contracts.server.ServerSession.{the_row}
 
 -- what a place owns with an allocator: the box of a server, where there is one
 abbrev pub owned_at : Global → Ptr → Option ServerSession → Fml

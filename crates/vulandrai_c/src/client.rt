@@ -1,10 +1,12 @@
 //! A client for programs in C.
 
 ghost use Rattle.std.specs.Prelude.{◌≡◌, false, true, ◌≤◌, ◌<◌, None, length};
-ghost use Rattle.client_core.specs.Calls.{Want};
+ghost use Rattle.client_core.specs.Calls.{ClientCall};
 ghost use Rattle.pir_schemes.specs.declared.scheme.Scheme.TheVariants.{Simple, Double};
 ghost use Rattle.vulandrai_c.specs.Handles.{CallsOn};
-ghost use Rattle.vulandrai_c.specs.ClientCalls.{Opens, Calls, CopiesHint, CopiesPlan, Resumes, TakesPiece, TakesWaiting, TakesEvent, Reports, hint_file_in, waiting_of, reported_server};
+ghost use Rattle.vulandrai_c.specs.ClientCalls.{Opens, Calls, CopiesHint, CopiesPlan, Resumes};
+ghost use Rattle.vulandrai_c.specs.ClientCalls.{TakesPiece, TakesWaiting, TakesEvent, Reports};
+ghost use Rattle.vulandrai_c.specs.ClientCalls.{hint_file_in, waiting_of, reported_server};
 
 use crate::client_answers::{
     append, ask, edit, feed, hello, next, plan, publish, resume, save, sync, take,
@@ -12,7 +14,7 @@ use crate::client_answers::{
 use crate::client_handle::ClientHandle;
 use crate::codes::{BAD_LENGTH, BAD_NUMBER, BAD_SCHEME, CLOSED, MEMORY, OK};
 use crate::reported::{ReportedEvent, ReportedServer, first_reported, server_reported};
-use client_session::{ClientSession, Scheme};
+use foreign_sessions::{ClientSession, Scheme};
 use std::alloc::Global;
 use std::mem::replace;
 
@@ -20,8 +22,8 @@ const NUMBER_LIMIT: u64 = 1 << 62;
 
 const RECORD_LIMIT: usize = 65_535;
 
-/// Makes a client in a handle, whose secrets and noise come from the seed; what the handle held is freed. 33 exactly where
-/// the first number is above 2^62; else it is made, or 5.
+/// Makes a client in a handle, whose secrets and noise come from the seed; what the handle held is
+/// freed. 33 exactly where the first number is above 2^62; else it is made, or 5.
 #[unsafe(no_mangle)]
 pub extern "C" fn vul_client_open(
     client: &mut ClientHandle,
@@ -42,7 +44,8 @@ pub extern "C" fn vul_client_open(
     OK
 }
 
-/// The same, for a client of wide stores: each kind of store refuses the other kind's client with code 3.
+/// The same, for a client of wide stores: each kind of store refuses the other kind's client with
+/// code 3.
 #[unsafe(no_mangle)]
 pub extern "C" fn vul_client_open_wide(
     client: &mut ClientHandle,
@@ -71,12 +74,12 @@ pub extern "C" fn vul_client_close(client: &mut ClientHandle, alloc: Global)
     *client = ClientHandle::closed(alloc);
 }
 
-/// Asks to be let in: with a key of 32 zero bytes as a reader, with the publisher's as the publisher. 32, 36, then the
-/// client's refusals.
+/// Asks to be let in: with a key of 32 zero bytes as a reader, with the publisher's as the
+/// publisher. 32, 36, then the client's refusals.
 #[unsafe(no_mangle)]
 pub extern "C" fn vul_client_hello(client: &mut ClientHandle, alloc: Global, key: &[u8; 32]) -> u32
     ensures { CallsOn client.old.held.session client.new.held.session result
-        (λ old new. Calls old (Want.Hello key.now) new result) }
+        (λ old new. Calls old (ClientCall.Hello key.now) new result) }
 {
     let Some(mut session) = replace(client, ClientHandle::closed(alloc)).into_box() else {
         return CLOSED;
@@ -86,14 +89,14 @@ pub extern "C" fn vul_client_hello(client: &mut ClientHandle, alloc: Global, key
     code
 }
 
-/// Asks for the hint of the last version known: of SimplePIR for 0, of DoublePIR for 1. 34 for any other number, and then
-/// nothing changes; 32, 36, then the client's refusals.
+/// Asks for the hint of the last version known: of SimplePIR for 0, of DoublePIR for 1. 34 for any
+/// other number, and then nothing changes; 32, 36, then the client's refusals.
 #[unsafe(no_mangle)]
 pub extern "C" fn vul_client_sync(client: &mut ClientHandle, alloc: Global, scheme: u32) -> u32
     ensures simple { (scheme ≡ 0) → CallsOn client.old.held.session client.new.held.session result
-        (λ old new. Calls old (Want.Sync Simple) new result) }
+        (λ old new. Calls old (ClientCall.Sync Simple) new result) }
     ensures double { (scheme ≡ 1) → CallsOn client.old.held.session client.new.held.session result
-        (λ old new. Calls old (Want.Sync Double) new result) }
+        (λ old new. Calls old (ClientCall.Sync Double) new result) }
     ensures other { (1 < scheme) →
         (result ≡ 34) × (client.new.held.session ≡ client.old.held.session) }
 {
@@ -114,7 +117,7 @@ pub extern "C" fn vul_client_sync(client: &mut ClientHandle, alloc: Global, sche
 #[unsafe(no_mangle)]
 pub extern "C" fn vul_client_ask(client: &mut ClientHandle, alloc: Global, index: u32) -> u32
     ensures { CallsOn client.old.held.session client.new.held.session result
-        (λ old new. Calls old (Want.Ask index) new result) }
+        (λ old new. Calls old (ClientCall.Ask index) new result) }
 {
     let Some(mut session) = replace(client, ClientHandle::closed(alloc)).into_box() else {
         return CLOSED;
@@ -124,8 +127,8 @@ pub extern "C" fn vul_client_ask(client: &mut ClientHandle, alloc: Global, index
     code
 }
 
-/// Gives the server these bytes for a record of the draft. 35 exactly where there are more than 65,535, and then nothing
-/// changes; 32, 36, then the client's refusals.
+/// Gives the server these bytes for a record of the draft. 35 exactly where there are more than
+/// 65,535, and then nothing changes; 32, 36, then the client's refusals.
 #[unsafe(no_mangle)]
 pub extern "C" fn vul_client_edit_bytes(
     client: &mut ClientHandle,
@@ -137,7 +140,7 @@ pub extern "C" fn vul_client_edit_bytes(
         (result ≡ 35) × (client.new.held.session ≡ client.old.held.session) }
     ensures short { (length record_bytes.now ≤ 65535) →
         CallsOn client.old.held.session client.new.held.session result
-        (λ old new. Calls old (Want.Edit index record_bytes.now) new result) }
+        (λ old new. Calls old (ClientCall.Edit index record_bytes.now) new result) }
 {
     if record_bytes.len() > RECORD_LIMIT {
         return BAD_LENGTH;
@@ -150,8 +153,8 @@ pub extern "C" fn vul_client_edit_bytes(
     code
 }
 
-/// Gives the server these bytes for a record after those of the draft. 35 exactly where there are more than 65,535, and then
-/// nothing changes; 32, 36, then the client's refusals.
+/// Gives the server these bytes for a record after those of the draft. 35 exactly where there are
+/// more than 65,535, and then nothing changes; 32, 36, then the client's refusals.
 #[unsafe(no_mangle)]
 pub extern "C" fn vul_client_append_bytes(
     client: &mut ClientHandle,
@@ -162,7 +165,7 @@ pub extern "C" fn vul_client_append_bytes(
         (result ≡ 35) × (client.new.held.session ≡ client.old.held.session) }
     ensures short { (length record_bytes.now ≤ 65535) →
         CallsOn client.old.held.session client.new.held.session result
-        (λ old new. Calls old (Want.Append record_bytes.now) new result) }
+        (λ old new. Calls old (ClientCall.Append record_bytes.now) new result) }
 {
     if record_bytes.len() > RECORD_LIMIT {
         return BAD_LENGTH;
@@ -179,7 +182,7 @@ pub extern "C" fn vul_client_append_bytes(
 #[unsafe(no_mangle)]
 pub extern "C" fn vul_client_publish(client: &mut ClientHandle, alloc: Global) -> u32
     ensures { CallsOn client.old.held.session client.new.held.session result
-        (λ old new. Calls old Want.Publish new result) }
+        (λ old new. Calls old ClientCall.Publish new result) }
 {
     let Some(mut session) = replace(client, ClientHandle::closed(alloc)).into_box() else {
         return CLOSED;
@@ -221,7 +224,8 @@ pub extern "C" fn vul_client_waiting(client: &mut ClientHandle, alloc: Global) -
     len
 }
 
-/// Copies the bytes that wait to be sent, and forgets them. 32; 35 exactly where `out` has another length than they have.
+/// Copies the bytes that wait to be sent, and forgets them. 32; 35 exactly where `out` has another
+/// length than they have.
 #[unsafe(no_mangle)]
 pub extern "C" fn vul_client_take_bytes(
     client: &mut ClientHandle,
@@ -257,8 +261,8 @@ pub extern "C" fn vul_client_event(
     OK
 }
 
-/// Copies the record that the first event gives, and forgets the event. 32; 35 exactly where `out` has another length than
-/// the record.
+/// Copies the record that the first event gives, and forgets the event. 32; 35 exactly where `out`
+/// has another length than the record.
 #[unsafe(no_mangle)]
 pub extern "C" fn vul_client_next_bytes(
     client: &mut ClientHandle,
@@ -308,8 +312,8 @@ pub extern "C" fn vul_client_known(
     OK
 }
 
-/// Copies the 41 bytes that say which store the server's is. 32; 1 exactly before the server let the client in; 35 exactly when `out` has
-/// another length.
+/// Copies the 41 bytes that say which store the server's is. 32; 1 exactly before the server let
+/// the client in; 35 exactly when `out` has another length.
 #[unsafe(no_mangle)]
 pub extern "C" fn vul_client_plan_bytes(
     client: &mut ClientHandle,
@@ -341,7 +345,8 @@ pub extern "C" fn vul_client_hint_len(client: &mut ClientHandle, alloc: Global) 
     len
 }
 
-/// Copies the file of the hint held. 32; 35 exactly when `out` has another length than it has; else it is copied, or 5.
+/// Copies the file of the hint held. 32; 35 exactly when `out` has another length than it has; else
+/// it is copied, or 5.
 #[unsafe(no_mangle)]
 pub extern "C" fn vul_client_save_bytes(
     client: &mut ClientHandle,
@@ -359,8 +364,9 @@ pub extern "C" fn vul_client_save_bytes(
     code
 }
 
-/// Goes on with the hint of a file: the client holds it then, or 81 when it is of another store or of a later version, and then the
-/// client is as it was. 32; 80 exactly when the bytes are no file of a hint; 5; then the client's refusals.
+/// Goes on with the hint of a file: the client holds it then, or 81 when it is of another store or
+/// of a later version, and then the client is as it was. 32; 80 exactly when the bytes are no file
+/// of a hint; 5; then the client's refusals.
 #[unsafe(no_mangle)]
 pub extern "C" fn vul_client_resume_bytes(
     client: &mut ClientHandle,

@@ -1,17 +1,18 @@
 //! What a client answers to a call, as a code.
 
 ghost use Rattle.std.specs.Prelude.{◌≤◌, length};
-ghost use Rattle.client_core.specs.Calls.{Want};
-ghost use Rattle.vulandrai_c.specs.ClientCalls.{Calls, CopiesHint, CopiesPlan, Resumes, TakesPiece, TakesWaiting, TakesEvent};
+ghost use Rattle.client_core.specs.Calls.{ClientCall};
+ghost use Rattle.vulandrai_c.specs.ClientCalls.{Calls, CopiesHint, CopiesPlan, Resumes, TakesPiece};
+ghost use Rattle.vulandrai_c.specs.ClientCalls.{TakesWaiting, TakesEvent};
 
 use crate::client_codes::{feed_code, resume_code, session_code};
 use crate::codes::{BAD_LENGTH, MEMORY, NOT_READY, OK};
-use client_session::{ClientSession, STORE_LEN, Scheme};
+use foreign_sessions::{ClientSession, STORE_LEN, Scheme};
 use std::alloc::Global;
 
 /// A greeting.
 pub fn hello(client: &mut ClientSession, key: [u8; 32]) -> u32
-    ensures { Calls client.old (Want.Hello key) client.new result }
+    ensures { Calls client.old (ClientCall.Hello key) client.new result }
 {
     let answer = client.hello(key);
     session_code(answer)
@@ -19,7 +20,7 @@ pub fn hello(client: &mut ClientSession, key: [u8; 32]) -> u32
 
 /// A sync.
 pub fn sync(client: &mut ClientSession, scheme: Scheme) -> u32
-    ensures { Calls client.old (Want.Sync scheme) client.new result }
+    ensures { Calls client.old (ClientCall.Sync scheme) client.new result }
 {
     let answer = client.sync(scheme);
     session_code(answer)
@@ -27,7 +28,7 @@ pub fn sync(client: &mut ClientSession, scheme: Scheme) -> u32
 
 /// A query.
 pub fn ask(client: &mut ClientSession, index: u32) -> u32
-    ensures { Calls client.old (Want.Ask index) client.new result }
+    ensures { Calls client.old (ClientCall.Ask index) client.new result }
 {
     let answer = client.ask(index);
     session_code(answer)
@@ -36,7 +37,7 @@ pub fn ask(client: &mut ClientSession, index: u32) -> u32
 /// An edit.
 pub fn edit(client: &mut ClientSession, index: u32, bytes: &[u8]) -> u32
     requires { length bytes.now ≤ 65535 }
-    ensures { Calls client.old (Want.Edit index bytes.now) client.new result }
+    ensures { Calls client.old (ClientCall.Edit index bytes.now) client.new result }
 {
     let answer = client.edit(index, bytes);
     session_code(answer)
@@ -45,7 +46,7 @@ pub fn edit(client: &mut ClientSession, index: u32, bytes: &[u8]) -> u32
 /// An append.
 pub fn append(client: &mut ClientSession, bytes: &[u8]) -> u32
     requires { length bytes.now ≤ 65535 }
-    ensures { Calls client.old (Want.Append bytes.now) client.new result }
+    ensures { Calls client.old (ClientCall.Append bytes.now) client.new result }
 {
     let answer = client.append(bytes);
     session_code(answer)
@@ -53,7 +54,7 @@ pub fn append(client: &mut ClientSession, bytes: &[u8]) -> u32
 
 /// A publication.
 pub fn publish(client: &mut ClientSession) -> u32
-    ensures { Calls client.old Want.Publish client.new result }
+    ensures { Calls client.old ClientCall.Publish client.new result }
 {
     let answer = client.publish();
     session_code(answer)

@@ -4,7 +4,7 @@ ghost use Rattle.std.specs.Prelude.{◌≡◌};
 ghost use Rattle.vulandrai_c.specs.ClientCodes as codes;
 
 use crate::codes::{MEMORY, NOT_READY, OK, UNTAKEN};
-use client_session::{CallFault, ClientFault, FeedFault, HintError, ResumeFault, SessionFault};
+use foreign_sessions::{CallFault, ClientFault, FeedFault, HintError, ResumeFault, SessionFault};
 
 fn call_code(fault: CallFault) -> u32
     ensures { result ≡ codes.call_code fault }

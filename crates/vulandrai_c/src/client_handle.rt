@@ -1,12 +1,12 @@
 //! What a C program keeps of a client.
 
 ghost use Rattle.std.specs.Prelude.{◌≡◌, Option, None, Some};
-ghost use Rattle.client_session.specs.declared.ClientSession.{ClientSession as Session};
+ghost use Rattle.foreign_sessions.specs.declared.client.ClientSession.{ClientSession as Session};
 ghost use Rattle.vulandrai_c.specs.ClientHandles.{owned_at};
 ghost use Rattle.vulandrai_c.specs.Handles.{IsThere, mark, inside};
 
 use crate::box_pointer::BoxPointer;
-use client_session::ClientSession;
+use foreign_sessions::ClientSession;
 use std::alloc::Global;
 use std::marker::Model;
 
@@ -58,7 +58,8 @@ impl ClientPointer {
 // Nothing behind the pointer is a thread's own: `proofs/client_handle/ClientPointer/TheSendSync`.
 unsafe impl Send for ClientPointer {}
 
-/// What a C program keeps of a client. All its bytes are 0 before `vul_client_open` and after `vul_client_close`.
+/// What a C program keeps of a client. All its bytes are 0 before `vul_client_open` and after
+/// `vul_client_close`.
 #[repr(C)]
 pub struct ClientHandle {
     full: u64,

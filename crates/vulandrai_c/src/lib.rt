@@ -1,10 +1,15 @@
-//! The client and the server for programs in C, and in all that call C: include/vulandrai.h has each call as C sees it.
+//! The client and the server for programs in C, and in all that call C: include/vulandrai.h has
+//! each call as C sees it.
 //!
-//! A handle is two words that the caller keeps, all 0 before its `open` and after its `close`. A call takes what the handle
-//! holds, does with it what its crate does, and puts it back; its answer is a code. What the types here take for granted is the caller's
-//! duty: that pointers and lengths are right, that a handle is not copied, and that one thread at a time uses it.
+//! A handle is two words that the caller keeps, all 0 before its `open` and after its `close`. A
+//! call takes what the handle holds, does with it what its crate does, and puts it back; its answer
+//! is a code. What the types here take for granted is the caller's duty: that pointers and lengths
+//! are right, that a handle is not copied, and that one thread at a time uses it.
 //!
-//! The exports whose names end in `_bytes` take slices, which are never null. c/slices.c calls them after it has looked.
+//! The exports whose names end in `_bytes` take slices, which are never null. c/slices.c calls them
+//! after it has looked.
+//!
+//! Its tests are in tests/long/vulandrai_c, tests/c and tests/python.
 #![tactic(auto)]
 
 mod box_pointer;

@@ -3,10 +3,11 @@
 ghost use Rattle.std.specs.Prelude.{◌≡◌};
 ghost use Rattle.vulandrai_c.specs.ClientCalls.{IsReported, Reports, reported_server};
 
-use client_session::{ClientSession, Event, ServerInfo};
+use foreign_sessions::{ClientSession, Event, ServerInfo};
 
-/// An event: its kind, which is 0 for none, the byte of its scheme or the code of the server's refusal, the index of its
-/// record, its version, and how many bytes the record has. What a kind lacks is 0.
+/// An event: its kind, which is 0 for none, the byte of its scheme or the code of the server's
+/// refusal, the index of its record, its version, and how many bytes the record has. What a kind
+/// lacks is 0.
 #[repr(C)]
 #[derive(Clone, Copy)]
 pub struct ReportedEvent {
@@ -18,8 +19,9 @@ pub struct ReportedEvent {
     pub record_len: u64,
 }
 
-/// What the server reported of its store, all 0 before it let the client in: the version, how many records there are, their
-/// form, how many bytes a record has, or in form 2 its slot, and how many words a secret has.
+/// What the server reported of its store, all 0 before it let the client in: the version, how many
+/// records there are, their form, how many bytes a record has, or in form 2 its slot, and how many
+/// words a secret has.
 #[repr(C)]
 #[derive(Clone, Copy)]
 pub struct ReportedServer {

@@ -3,7 +3,10 @@
 ghost use Rattle.std.specs.Prelude.{◌≡◌, ◌≢◌, ◌≤◌, None, length, if◌then◌else◌};
 ghost use Rattle.server_core.specs.Cores.{session_of, is_open};
 ghost use Rattle.vulandrai_c.specs.Handles.{CallsOn};
-ghost use Rattle.vulandrai_c.specs.ServerCalls.{Opens, OpensSession, ClosesSession, TakesPiece, TakesFrame, TakesReplies, Edits, Appends, Publishes, CopiesSnapshot, replies_of, snapshot_bytes_of};
+ghost use Rattle.vulandrai_c.specs.ServerCalls.{Opens, OpensSession, ClosesSession, TakesPiece};
+ghost use Rattle.vulandrai_c.specs.ServerCalls.{TakesFrame, TakesReplies, Edits, Appends};
+ghost use Rattle.vulandrai_c.specs.ServerCalls.{Publishes, CopiesSnapshot, replies_of};
+ghost use Rattle.vulandrai_c.specs.ServerCalls.{snapshot_bytes_of};
 
 use crate::codes::{CLOSED, MEMORY, OK};
 use crate::server_answers::{
@@ -12,12 +15,12 @@ use crate::server_answers::{
 };
 use crate::server_codes::snapshot_code;
 use crate::server_handle::ServerHandle;
-use server_session::ServerSession;
+use foreign_sessions::ServerSession;
 use std::alloc::Global;
 use std::mem::replace;
 
-/// Makes a server of the records of a snapshot file in a handle; what the handle held is freed. The snapshot's codes, in
-/// their order, or 5.
+/// Makes a server of the records of a snapshot file in a handle; what the handle held is freed. The
+/// snapshot's codes, in their order, or 5.
 #[unsafe(no_mangle)]
 pub extern "C" fn vul_server_open_bytes(
     server: &mut ServerHandle,
@@ -94,8 +97,8 @@ pub extern "C" fn vul_server_session_is_open(
     OK
 }
 
-/// Takes a piece of a session's stream. 32, 36; 48 exactly where there is no session of this number; else it is served, or
-/// 5.
+/// Takes a piece of a session's stream. 32, 36; 48 exactly where there is no session of this
+/// number; else it is served, or 5.
 #[unsafe(no_mangle)]
 pub extern "C" fn vul_server_feed_bytes(
     server: &mut ServerHandle,
@@ -114,9 +117,9 @@ pub extern "C" fn vul_server_feed_bytes(
     code
 }
 
-/// Takes a piece of a session's stream up to the end of its first frame: `taken` is how many bytes of it, and the rest is for a
-/// later call. 32, 36; 48 exactly when there is no session of this number; else it is served, or 5. With each of these
-/// codes no byte is taken.
+/// Takes a piece of a session's stream up to the end of its first frame: `taken` is how many bytes
+/// of it, and the rest is for a later call. 32, 36; 48 exactly when there is no session of this
+/// number; else it is served, or 5. With each of these codes no byte is taken.
 #[unsafe(no_mangle)]
 pub extern "C" fn vul_server_feed_frame_bytes(
     server: &mut ServerHandle,
@@ -153,7 +156,8 @@ pub extern "C" fn vul_server_waiting(server: &mut ServerHandle, alloc: Global) -
     len
 }
 
-/// Copies the replies that wait to be sent, and forgets them. 32; 35 exactly where `out` has another length than they have.
+/// Copies the replies that wait to be sent, and forgets them. 32; 35 exactly where `out` has
+/// another length than they have.
 #[unsafe(no_mangle)]
 pub extern "C" fn vul_server_take_bytes(
     server: &mut ServerHandle,
@@ -171,8 +175,8 @@ pub extern "C" fn vul_server_take_bytes(
     code
 }
 
-/// Replaces a record of the draft. 32; 50 exactly where there is no such record; else 51 exactly where the bytes can't be a
-/// record; else it is replaced, or 5.
+/// Replaces a record of the draft. 32; 50 exactly where there is no such record; else 51 exactly
+/// where the bytes can't be a record; else it is replaced, or 5.
 #[unsafe(no_mangle)]
 pub extern "C" fn vul_server_edit_bytes(
     server: &mut ServerHandle,
@@ -191,8 +195,8 @@ pub extern "C" fn vul_server_edit_bytes(
     code
 }
 
-/// Puts a record after those of the draft. 32; 51 exactly where the bytes can't be a record; else 54 exactly where there is no
-/// layout of one record more; else it stands there, or 5.
+/// Puts a record after those of the draft. 32; 51 exactly where the bytes can't be a record; else
+/// 54 exactly where there is no layout of one record more; else it stands there, or 5.
 #[unsafe(no_mangle)]
 pub extern "C" fn vul_server_append_bytes(
     server: &mut ServerHandle,
@@ -210,8 +214,9 @@ pub extern "C" fn vul_server_append_bytes(
     code
 }
 
-/// Publishes the draft. 32; 52 exactly where nothing was edited or appended since the last publication; else 53 exactly where
-/// the version is the last that there is; else it is published, or 5.
+/// Publishes the draft. 32; 52 exactly where nothing was edited or appended since the last
+/// publication; else 53 exactly where the version is the last that there is; else it is published,
+/// or 5.
 #[unsafe(no_mangle)]
 pub extern "C" fn vul_server_publish(server: &mut ServerHandle, alloc: Global) -> u32
     ensures { CallsOn server.old.held.session server.new.held.session result
@@ -253,8 +258,8 @@ pub extern "C" fn vul_server_snapshot_len(server: &mut ServerHandle, alloc: Glob
     len
 }
 
-/// Copies the snapshot file of the current version. 32; 35 exactly where `out` has another length than it has; else it is
-/// copied, or 5.
+/// Copies the snapshot file of the current version. 32; 35 exactly where `out` has another length
+/// than it has; else it is copied, or 5.
 #[unsafe(no_mangle)]
 pub extern "C" fn vul_server_snapshot_bytes(
     server: &mut ServerHandle,

@@ -4,7 +4,7 @@ ghost use Rattle.vulandrai_c.specs.ServerCalls as calls;
 
 use crate::codes::{BAD_LENGTH, MEMORY, NO_SESSION, OK};
 use crate::server_codes::{append_code, edit_code, opening_code, piece_code, publication_code};
-use server_session::ServerSession;
+use foreign_sessions::ServerSession;
 use std::alloc::Global;
 
 /// The opening of a session.

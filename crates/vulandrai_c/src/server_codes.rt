@@ -4,7 +4,7 @@ ghost use Rattle.std.specs.Prelude.{◌≡◌};
 ghost use Rattle.vulandrai_c.specs.ServerCodes as codes;
 
 use crate::codes::{MEMORY, NO_SESSION, OK, UNTAKEN};
-use server_session::{
+use foreign_sessions::{
     AppendError, EditError, FeedError, PieceFault, PublishError, SessionError, SnapshotFault,
 };
 

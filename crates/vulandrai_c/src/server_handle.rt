@@ -1,12 +1,12 @@
 //! What a C program keeps of a server.
 
 ghost use Rattle.std.specs.Prelude.{◌≡◌, Option, None, Some};
-ghost use Rattle.server_session.specs.declared.ServerSession.{ServerSession as Session};
+ghost use Rattle.foreign_sessions.specs.declared.server.ServerSession.{ServerSession as Session};
 ghost use Rattle.vulandrai_c.specs.ServerHandles.{owned_at};
 ghost use Rattle.vulandrai_c.specs.Handles.{IsThere, mark, inside};
 
 use crate::box_pointer::BoxPointer;
-use server_session::ServerSession;
+use foreign_sessions::ServerSession;
 use std::alloc::Global;
 use std::marker::Model;
 
@@ -58,7 +58,8 @@ impl ServerPointer {
 // Nothing behind the pointer is a thread's own: `proofs/server_handle/ServerPointer/TheSendSync`.
 unsafe impl Send for ServerPointer {}
 
-/// What a C program keeps of a server. All its bytes are 0 before `vul_server_open` and after `vul_server_close`.
+/// What a C program keeps of a server. All its bytes are 0 before `vul_server_open` and after
+/// `vul_server_close`.
 #[repr(C)]
 pub struct ServerHandle {
     full: u64,

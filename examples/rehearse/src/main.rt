@@ -1,7 +1,7 @@
-//! Plays a script of a whole world: a publisher, a server and clients in one process. `pir_client` without a command does
-//! the same; this has less to compile, so scripts/demo begins with it.
+//! Plays a script of a whole world: a publisher, a server and clients in one process. `pir_client`
+//! without a command does the same; this has less to compile, so scripts/demo begins with it.
 
-use rehearsal::rehearse;
+use world_script::rehearse;
 use std::io;
 use std::process::ExitCode;
 

@@ -27,7 +27,8 @@ pub fn all<'a>(
 }
 
 impl World<'_> {
-    /// A step of a client for which there is something to do, chosen at random; now and then of any.
+    /// A step of a client for which there is something to do, chosen at random; now and then of
+    /// any.
     pub(super) fn act_client(&mut self) -> Result<(), Broken> {
         let start = self.dice.below(self.clients.len());
         let client = if self.dice.one_in(8) {
@@ -66,7 +67,8 @@ impl World<'_> {
         self.look_at_power(machine)
     }
 
-    // The first client from a number on for which there is something to do, or the first of all; the one given if there is none.
+    // The first client from a number on for which there is something to do, or the first of all;
+    // the one given if there is none.
     fn ready_from(&self, start: usize) -> usize {
         let count = self.clients.len();
         for client in (start..count).chain(0..start) {

@@ -5,7 +5,8 @@ use crate::events::What;
 use deployment_model::{Broken, Command, PushEnd, Pushed, Talk, is_damage, name_of};
 use publisher_files::{FolderVersion, settled_folder};
 
-/// The power of the publisher's machine is cut soon after one command in so many, or in twice or six times as many.
+/// The power of the publisher's machine is cut soon after one command in so many, or in twice or
+/// six times as many.
 const COMMANDS: usize = 32;
 
 impl World<'_> {
@@ -68,7 +69,8 @@ impl World<'_> {
         let mut talks = Vec::new(self.alloc);
         for server in 0..self.servers.len() {
             let machine = self.sizes.server(server);
-            // A draft of a session that a server still takes for open can't be kept from being added to (docs/DECISIONS.md).
+            // A draft of a session that a server still takes for open can't be kept from being
+            // added to (docs/DECISIONS.md).
             if self.network.is_connected(0, machine) {
                 continue;
             }
@@ -110,7 +112,8 @@ impl World<'_> {
         Ok(())
     }
 
-    // The place of a conversation in which there is something to do, chosen at random; now and then of any.
+    // The place of a conversation in which there is something to do, chosen at random; now and then
+    // of any.
     fn ready_talk(&mut self, round: &Round<'_>) -> usize {
         let count = round.talks.len();
         let start = self.dice.below(count);

@@ -83,7 +83,8 @@ fn write_file(files: &SimulatedFiles<'_>, name: &str, setting: &Setting, bytes: 
 }
 
 impl<'a> World<'a> {
-    /// A step of a server for which there is something to do, chosen at random; now and then of any.
+    /// A step of a server for which there is something to do, chosen at random; now and then of
+    /// any.
     pub(super) fn act_server(&mut self) -> Result<(), Broken> {
         let start = self.dice.below(self.servers.len());
         let server = if self.dice.one_in(8) {
@@ -119,7 +120,8 @@ impl<'a> World<'a> {
         self.look_at_power(machine)
     }
 
-    // The first server from a number on for which there is something to do, or the first of all; the one given if there is none.
+    // The first server from a number on for which there is something to do, or the first of all;
+    // the one given if there is none.
     fn ready_server(&self, start: usize) -> usize {
         let count = self.servers.len();
         for server in (start..count).chain(0..start) {

@@ -1,6 +1,7 @@
 //! One who asks how a service does.
 
-ghost use Rattle.std.specs.Prelude.{◌≡◌, ◌≤◌, ◌<◌, ◌↔◌, ℕ, List, length, IfNone, IfOk, IsTrue, Some, false, string_bytes};
+ghost use Rattle.std.specs.Prelude.{◌≡◌, ◌≤◌, ◌<◌, ◌↔◌, ℕ, List, length, IfNone, IfOk, IsTrue};
+ghost use Rattle.std.specs.Prelude.{Some, false, string_bytes};
 ghost use Rattle.httparse.specs.Grammar.{HasNoRequest, MayBecomeRequest, ReadsRequest, RequestHead};
 ghost use Rattle.service_watch.specs.Requests.{page_for};
 ghost use Rattle.service_status.specs.Visiting.{EndsVisit, IsResponse, leaving_until};
@@ -18,7 +19,8 @@ const MOST_HEAD: usize = 4_096;
 /// How many milliseconds a visitor may stay.
 const STAY: u64 = 5_000;
 
-/// How many milliseconds one is read from whose response is written, so that the response is not lost with what was not read.
+/// How many milliseconds one is read from whose response is written, so that the response is not
+/// lost with what was not read.
 const LEAVE: u64 = 500;
 
 /// What a call on a socket came to.
@@ -47,7 +49,8 @@ enum Stage {
     Leaves,
 }
 
-/// A connection with one request. A flag is put out when a call would have waited, and set by an event.
+/// A connection with one request. A flag is put out when a call would have waited, and set by an
+/// event.
 #[derive(Drop)]
 pub struct Visitor {
     stream: TcpStream,
@@ -192,7 +195,8 @@ impl Visitor {
         }
     }
 
-    /// Writes once, where there is a response. Answers whether it stays: its time is over soon after the whole response was written.
+    /// Writes once, where there is a response. Answers whether it stays: its time is over soon
+    /// after the whole response was written.
     pub fn write(&mut self, now: u64) -> bool
         ensures late { self.old.until ≤ now → result ≡ false }
         ensures bound { self.new.until ≤ self.old.until }
@@ -234,7 +238,8 @@ impl Visitor {
     }
 }
 
-// The page for the head of a request, once it is whole or can't become so; none while more of it is waited for.
+// The page for the head of a request, once it is whole or can't become so; none while more of it is
+// waited for.
 fn page_within(head: &[u8]) -> Option<Page>
     ensures whole { (h : RequestHead) (rest : List ℕ) → ReadsRequest head.now h rest →
         length h.fields ≤ 64 → result ≡ Some (page_for h.method h.target) }

@@ -33,8 +33,8 @@ impl Machine {
         count
     }
 
-    /// Writes some bytes at a place, or at the end, and answers how many and where the last one ends. A write that fails may have written
-    /// some of them.
+    /// Writes some bytes at a place, or at the end, and answers how many and where the last one
+    /// ends. A write that fails may have written some of them.
     pub(crate) fn write(
         &mut self,
         handle: Handle,
@@ -96,7 +96,8 @@ impl Machine {
         Ok(())
     }
 
-    /// Sends a file's bytes or a folder's names to the device. If that fails, a file's bytes may be lost for good.
+    /// Sends a file's bytes or a folder's names to the device. If that fails, a file's bytes may be
+    /// lost for good.
     pub(crate) fn sync(&mut self, handle: Handle) -> io::Result<()> {
         self.begin_on(handle)?;
         self.spend()?;

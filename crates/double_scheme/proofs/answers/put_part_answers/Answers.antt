@@ -28,8 +28,8 @@ slice_bounds-two-end g c =
       c.loop-d.auto.out,
     )
 
-pub part_of-y-requires : goal.part_of-y-requires
-part_of-y-requires g c =
+pub chunk_of-y-requires : goal.chunk_of-y-requires
+chunk_of-y-requires g c =
     let l = c.args.layout.now in
     let r : ℕ = c.rows-rows.result in
     let last : (c.loop-d.d + 2) * r ≤ digits_per_record l * r =
@@ -46,12 +46,12 @@ loop-d-preserved-then-d-parts g c =
     let count : ℕ = c.rows.result + c.rows-2.result in
     let d : ℕ = c.loop-d.d in
     let f : ℕ → List ℕ = λ d. part_answer_of h first (part_of_query l words d) in
-    let x : c.part_of-x.result.now ≡ part_of_query l words d =
-    c.part_of-x.ensures.value
+    let x : c.chunk_of-x.result.now ≡ part_of_query l words d =
+    c.chunk_of-x.ensures.value
     ∙ ap (λ r. take r (drop (c.cols-cols.result + d * r) words)) c.rows-rows.ensures.value
     ∙ ap (λ n. take (digit_rows l) (drop (n + d * digit_rows l) words)) c.cols-cols.ensures.value in
-    let y : c.part_of-y.result.now ≡ part_of_query l words (d + 1) =
-    c.part_of-y.ensures.value
+    let y : c.chunk_of-y.result.now ≡ part_of_query l words (d + 1) =
+    c.chunk_of-y.ensures.value
     ∙ ap (λ r. take r (drop (c.cols-cols.result + (d + 1) * r) words)) c.rows-rows.ensures.value
     ∙ ap (λ n. take (digit_rows l) (drop (n + (d + 1) * digit_rows l) words)) c.cols-cols.ensures.value in
     let inside : d * count + 2 * count ≤ length c.args.out.now =
@@ -76,8 +76,8 @@ loop-d-preserved g c =
     let count : ℕ = c.rows.result + c.rows-2.result in
     let d : ℕ = c.loop-d.d in
     let f : ℕ → List ℕ = λ d. part_answer_of h first (part_of_query l words d) in
-    let x : c.part_of-x.result.now ≡ part_of_query l words d =
-    c.part_of-x.ensures.value
+    let x : c.chunk_of-x.result.now ≡ part_of_query l words d =
+    c.chunk_of-x.ensures.value
     ∙ ap (λ r. take r (drop (c.cols-cols.result + d * r) words)) c.rows-rows.ensures.value
     ∙ ap (λ n. take (digit_rows l) (drop (n + d * digit_rows l) words)) c.cols-cols.ensures.value in
     let inside : d * count + 1 * count ≤ length c.args.out.now =

@@ -12,5 +12,5 @@ returns g c =
     let wide : c.len.result ≡ a.cols = c.len.ensures ∙ c.args.room.row.ok.0 ∙ sym c.requires.cols in
     let parts : c.digits_per_record-parts.result ≡ digits_per_record l = c.digits_per_record-parts.ensures.value in
     c.put_noisy_parts.ensures a c.requires.rows (λ d p.
-    c.put_matrix_products.ensures.products d (omega (arith, p, c.requires.part_room.product_rows))
+    c.put_matrix_products.ensures.products d (omega (arith, p, c.requires.part_buffers.product_rows))
     ∙ ap (times_vector a) (c.part_secrets-secrets.ensures.secrets d (omega (arith, p, parts)) ∙ ap (λ k. part_secret seed c.args.number k d) wide))

@@ -33,11 +33,11 @@ loop-d-preserved g c =
     let word : ℕ = c.read_word-word.result in
     let prefix : c.rows-prefix.result ≡ n * split_count w = c.rows-prefix.ensures.value ∙ c.requires.rows in
     let size : c.rows-prefix.result + c.split_count.result ≡ words_of_part w n = omega (arith, prefix, c.split_count.ensures) in
-    let words : c.part_of-words.result.now ≡ hint_part_words w n (answer_part w n c.args.answer.now d) =
-    c.part_of-words.ensures.value ∙ words_for_the_row w n c.args.answer.now d _ _ prefix size in
+    let words : c.chunk_of-words.result.now ≡ hint_part_words w n (answer_part w n c.args.answer.now d) =
+    c.chunk_of-words.ensures.value ∙ words_for_the_row w n c.args.answer.now d _ _ prefix size in
     let read : word ≡ second_word w c.args.client_hint.now (row c.args.secrets.now d) (hint_part_words w n (answer_part w n c.args.answer.now d)) k =
     c.read_word-word.ensures
-    ∙ ap (λ (s : List ℕ). second_word w c.args.client_hint.now s c.part_of-words.result.now k) c.row.ensures.value
+    ∙ ap (λ (s : List ℕ). second_word w c.args.client_hint.now s c.chunk_of-words.result.now k) c.row.ensures.value
     ∙ ap (λ (ws : List ℕ). second_word w c.args.client_hint.now (row c.args.secrets.now d) ws k) words in
     let inside : k < before.cols = omega (arith, c.requires.inside, c.requires.out_cols, c.loop-d.invariant.cols) in
     let here : d < before.rows = omega (arith, c.loop-d-test.true, c.rows-d-end.ensures.value, c.requires.out_rows, c.loop-d.invariant.rows) in

@@ -15,15 +15,15 @@ loop-d-preserved g c =
     let first : ℕ = c.cols.result * c.split_count.result in
     let prefix : first ≡ n * split_count w = ap (λ k. k * c.split_count.result) c.cols.ensures ∙ ap (λ k. n * k) c.split_count.ensures in
     let size : first + c.split_count-2.result ≡ words_of_part w n = omega (arith, prefix, c.split_count-2.ensures) in
-    let part : c.part_of-part.result.now ≡ answer_part w n answer d =
-    c.part_of-part.ensures.value
+    let part : c.chunk_of-part.result.now ≡ answer_part w n answer d =
+    c.chunk_of-part.ensures.value
     ∙ ap (λ f. take (first + c.split_count-2.result) (drop (f + d * (first + c.split_count-2.result)) answer)) prefix
     ∙ ap (λ s. take s (drop (n * split_count w + d * s) answer)) size in
     filled_more c.loop-d.out d c.read_part.result
     (λ k. nearest w (stripped (word_read w n c.args.first_hint.now (row c.args.secrets.now k) (answer_part w n answer k)) (row c.args.rows.now k) c.args.first_secret.now))
     (omega (arith, c.loop-d-test.true, c.loop-d.auto.out))
     (c.read_part.ensures
-    ∙ ap (λ (s : List ℕ). nearest w (stripped (word_read w n c.args.first_hint.now s c.part_of-part.result.now) c.row.result.now c.args.first_secret.now)) c.row-in-loop-d.ensures.value
+    ∙ ap (λ (s : List ℕ). nearest w (stripped (word_read w n c.args.first_hint.now s c.chunk_of-part.result.now) c.row.result.now c.args.first_secret.now)) c.row-in-loop-d.ensures.value
     ∙ ap (λ (p : List ℕ). nearest w (stripped (word_read w n c.args.first_hint.now (row c.args.secrets.now d) p) c.row.result.now c.args.first_secret.now)) part
     ∙ ap (λ (r : List ℕ). nearest w (stripped (word_read w n c.args.first_hint.now (row c.args.secrets.now d) (answer_part w n answer d)) r c.args.first_secret.now)) c.row.ensures.value)
     c.loop-d.invariant

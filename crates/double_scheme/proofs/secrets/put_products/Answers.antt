@@ -3,22 +3,22 @@ use Rattle.std.specs.Prelude.{slice_index}
 use Rattle.matrix_u32.specs.Sum.{list_of, dot}
 use Rattle.matrix_u32.specs.Matrix.{WordMatrix, entry, row, times_vector}
 use Rattle.matrix_u32.proofs.Products.{at-list_of, same-list_of, length-list_of, dot_comm}
-use Rattle.seed_expand.specs.Words.{source_word, further, rows_from}
-use Rattle.seed_expand.proofs.Sources.{further-further, row-rows_from}
+use Rattle.seed_expand.specs.Words.{source_word, further, source_rows}
+use Rattle.seed_expand.proofs.Sources.{further-further, row-source_rows}
 use Rattle.double_scheme.proofs.secrets.put_products.Goals as goal
 
 pub loop-r-preserved : goal.loop-r-preserved
 loop-r-preserved g c =
     let s : WordMatrix = c.args.secrets.now in
     let n : ℕ = s.cols in
-    let a : WordMatrix = rows_from c.args.source c.args.out.now.cols n in
+    let a : WordMatrix = source_rows c.args.source c.args.out.now.cols n in
     let r : ℕ = c.loop-r.r in
     let inside : r < c.args.out.now.cols = omega (arith, c.loop-r-test.true, c.loop-r.invariant.cols) in
     let given : c.fill_words.new.out ≡ row a r =
     c.fill_words.ensures.words
     ∙ ap (λ k. list_of k (source_word c.loop-r.source)) c.loop-r.invariant.wide
     ∙ ap (λ s. list_of n (source_word s)) c.loop-r.invariant.source
-    ∙ row-rows_from c.args.source c.args.out.now.cols n r inside in
+    ∙ row-source_rows c.args.source c.args.out.now.cols n r inside in
     let column : c.mul_vec.new.out ≡ times_vector s (row a r) = c.mul_vec.ensures ∙ ap (λ x. times_vector s x) given in
     record {
       rows = c.put_column.ensures.rows ∙ c.loop-r.invariant.rows;
@@ -41,7 +41,7 @@ loop-r-preserved g c =
 
 pub returns-clause-products : goal.returns-clause-products
 returns-clause-products g c = λ d p.
-    let a : WordMatrix = rows_from c.args.source c.args.out.now.cols c.args.secrets.now.cols in
+    let a : WordMatrix = source_rows c.args.source c.args.out.now.cols c.args.secrets.now.cols in
     ap (λ n. list_of n (λ k. entry c.loop-r.out d k)) c.loop-r.invariant.cols
     ∙ same-list_of c.args.out.now.cols _ (λ k. dot (row a k) (row c.args.secrets.now d))
     (λ k l. c.loop-r.invariant.filled d k p (omega (arith, l, c.loop-r-test.false, c.loop-r.invariant.cols)))

@@ -5,7 +5,7 @@ use Rattle.digit_pack.proofs.DigitSums.{split_some}
 use Rattle.hint_update.specs.Updates.{AreRowsBelow, TakesBlock}
 use Rattle.hint_update.proofs.Blocks.{more_taken, all_taken, block_moved, all_moved}
 use Rattle.hint_update.proofs.Listed.{listed_follows}
-use Rattle.hint_update.specs.Words.{IsRowsRoom, IsWordsRoom}
+use Rattle.hint_update.specs.Words.{IsRowsBuffers, IsWordsBuffers}
 use Rattle.hint_update.proofs.rows.update_double_rows.Goals as goal
 
 pub loop-first-preserved : goal.loop-first-preserved
@@ -17,22 +17,22 @@ loop-first-preserved g c =
     let count : ℕ = c.min-count.result in
     let s0 : WordMatrix = g.S.DigitStore.digits c.args.server_hint.now in
     let s : WordMatrix = g.S.DigitStore.digits c.loop-first.server_hint in
-    let s' : WordMatrix = g.S.DigitStore.digits c.take_block.new.server_hint in
+    let s' : WordMatrix = g.S.DigitStore.digits c.replace_digits.new.server_hint in
     let rows : AreRowsBelow s0.cols listed = subst (λ n. AreRowsBelow n listed) (sym c.requires.server_cols) c.requires.listed in
     let zero : 0 + first ≡ first = omega arith in
     let fits : first + count ≤ s0.rows = omega (arith, c.loop-first-test.true, c.min-count.ensures, c.rows-rows.ensures.value) in
     record {
       within = omega (arith, fits, c.rows-rows.ensures.value);
       server = more_taken w hint s0 s s' listed 0 first count rows (omega (arith, fits)) c.loop-first.invariant.server
-          (subst (λ x. TakesBlock w hint s s' listed x count) (sym zero) c.take_block.ensures.server);
+          (subst (λ x. TakesBlock w hint s s' listed x count) (sym zero) c.replace_digits.ensures.server);
       client = block_moved w hint s0 s c.args.client_hint.now c.loop-first.client_hint c.add_changed.new.client_hint c.args.a2.now c.loop-first.room.public
-          c.take_block.new.changes listed first count rows fits c.requires.client_rows c.requires.client_cols c.loop-first.invariant.server
-          c.take_block.ensures.changes c.loop-first.invariant.copied c.add_changed.ensures.added c.loop-first.invariant.client;
+          c.replace_digits.new.changes listed first count rows fits c.requires.client_rows c.requires.client_cols c.loop-first.invariant.server
+          c.replace_digits.ensures.changes c.loop-first.invariant.copied c.add_changed.ensures.added c.loop-first.invariant.client;
       copied = λ k q l p. ap (λ m. entry m k q) c.add_changed.ensures.public ∙ c.loop-first.invariant.copied k q l p;
       cleared = λ k q l p b. ap (λ m. entry m k q) c.add_changed.ensures.public ∙ c.loop-first.invariant.cleared k q l p b;
       combined = c.add_changed.ensures.combined;
-      room = subst (λ n. IsRowsRoom n c.args.a2.now.cols c.add_changed.new.room) c.loop-first.invariant.room.public_rows
-          (subst (λ n. IsRowsRoom c.loop-first.room.public.rows n c.add_changed.new.room) c.loop-first.invariant.room.public_cols c.add_changed.ensures.room);
+      room = subst (λ n. IsRowsBuffers n c.args.a2.now.cols c.add_changed.new.room) c.loop-first.invariant.room.public_rows
+          (subst (λ n. IsRowsBuffers c.loop-first.room.public.rows n c.add_changed.new.room) c.loop-first.invariant.room.public_cols c.add_changed.ensures.room);
     }
 
 pub add_changed-requires-clause-room : goal.add_changed-requires-clause-room
@@ -43,15 +43,15 @@ add_changed-requires-clause-room g c =
     record {
       public_rows = refl;
       public_cols = refl;
-      blocks = omega (arith, room.blocks, c.take_block.ensures.rows);
-      changes = c.take_block.ensures.cols ∙ room.changes ∙ most;
-      new_digits = sym (with_items c.loop-first.room.new_digits c.take_block.new.new_digits).ok.0 ∙ c.loop-first.room.new_digits.ok.0 ∙ room.new_digits
-          ∙ sym c.take_block.ensures.rows;
-      old_digits = sym (with_items c.loop-first.room.old_digits c.take_block.new.old_digits).ok.0 ∙ c.loop-first.room.old_digits.ok.0 ∙ room.old_digits
-          ∙ sym c.take_block.ensures.rows;
+      blocks = omega (arith, room.blocks, c.replace_digits.ensures.rows);
+      changes = c.replace_digits.ensures.cols ∙ room.changes ∙ most;
+      new_digits = sym (with_items c.loop-first.room.new_digits c.replace_digits.new.new_digits).ok.0 ∙ c.loop-first.room.new_digits.ok.0 ∙ room.new_digits
+          ∙ sym c.replace_digits.ensures.rows;
+      old_digits = sym (with_items c.loop-first.room.old_digits c.replace_digits.new.old_digits).ok.0 ∙ c.loop-first.room.old_digits.ok.0 ∙ room.old_digits
+          ∙ sym c.replace_digits.ensures.rows;
       sums = room.sums ∙ most;
-      words = subst (λ n. IsWordsRoom n c.loop-first.room.public.cols c.loop-first.room.words) most
-          (subst (λ n. IsWordsRoom c.args.room.now.public.rows n c.loop-first.room.words) cols room.words);
+      words = subst (λ n. IsWordsBuffers n c.loop-first.room.public.cols c.loop-first.room.words) most
+          (subst (λ n. IsWordsBuffers c.args.room.now.public.rows n c.loop-first.room.words) cols room.words);
     }
 
 pub add_changed-requires-clause-cleared : goal.add_changed-requires-clause-cleared

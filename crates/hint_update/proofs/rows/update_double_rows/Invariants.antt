@@ -2,7 +2,7 @@ use Rattle.std.proofs.Common.{◌≡◌, ℕ, ◌<◌, ◌≤◌, ◌-◌, lengt
 use Rattle.std.specs.Prelude.{slice_index}
 use Rattle.matrix_u32.specs.Matrix.{entry}
 use Rattle.hint_update.specs.Updates.{TakesBlock}
-use Rattle.hint_update.specs.Words.{HasCombined, IsRowsRoom}
+use Rattle.hint_update.specs.Words.{HasCombined, IsRowsBuffers}
 use Rattle.hint_update.proofs.Blocks.{IsMovedTo}
 use Rattle.hint_update.proofs.rows.update_double_rows.Given as goal
 
@@ -14,7 +14,7 @@ invariant-loop-first g l = record {
   copied : (k q : ℕ) → k < length l.listed → q < l.a2.cols → entry l.room.public k q ≡ entry l.a2 (slice_index l.listed k) q;
   cleared : (k q : ℕ) → length l.listed ≤ k → k < l.fn.room.public.rows → q < l.a2.cols → entry l.room.public k q ≡ 0;
   combined : HasCombined l.room.public l.room.words;
-  room : IsRowsRoom l.fn.room.public.rows l.a2.cols l.room;
+  room : IsRowsBuffers l.fn.room.public.rows l.a2.cols l.room;
 }
 
 abbrev pub decreases-loop-first : goal.decreases-loop-first

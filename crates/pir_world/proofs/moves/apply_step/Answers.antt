@@ -1,7 +1,7 @@
 use Rattle.std.proofs.Common.{ℕ, List, false, subst}
 use Rattle.pir_world.specs.declared.steps.Step.TheVariants.{Edit, Append, Publish, Hello, Sync, Ask, ToServer, ToClient}
 use Rattle.pir_world.specs.Runs.{append_after, edit_after}
-use Rattle.pir_world.specs.Sides.{IsParts}
+use Rattle.pir_world.specs.Sides.{Implements}
 use Rattle.pir_world.proofs.Sending.{on_map, made_step}
 use Rattle.pir_world.proofs.moves.apply_step.Goals as goal
 
@@ -9,14 +9,14 @@ pub returns-in-Edit-clause-made : goal.returns-in-Edit-clause-made
 returns-in-Edit-clause-made g c = on_map c.edit.result _ _ (λ made x seeds s inv p.
     made_step x false s c.args.step.now (Edit c.in-Edit.index c.in-Edit.bytes) c.edit.new.server c.args.ends.now.items c.edit.new.outcomes.items c.in-Edit.is
     c.as_slice.ensures.fields
-    (subst (λ (b : List ℕ). IsParts x c.edit.new.server c.args.ends.now.items c.edit.new.outcomes.items (edit_after x s c.in-Edit.index b))
+    (subst (λ (b : List ℕ). Implements x c.edit.new.server c.args.ends.now.items c.edit.new.outcomes.items (edit_after x s c.in-Edit.index b))
     c.as_slice.ensures.items (made c.args.ends.now.items x s p))) c.edit.ensures.made
 
 pub returns-in-Append-clause-made : goal.returns-in-Append-clause-made
 returns-in-Append-clause-made g c = on_map c.append.result _ _ (λ made x seeds s inv p.
     made_step x false s c.args.step.now (Append c.in-Append.bytes) c.append.new.server c.args.ends.now.items c.append.new.outcomes.items c.in-Append.is
     c.as_slice-in-Append.ensures.fields
-    (subst (λ (b : List ℕ). IsParts x c.append.new.server c.args.ends.now.items c.append.new.outcomes.items (append_after x s b))
+    (subst (λ (b : List ℕ). Implements x c.append.new.server c.args.ends.now.items c.append.new.outcomes.items (append_after x s b))
     c.as_slice-in-Append.ensures.items (made c.args.ends.now.items x s p))) c.append.ensures.made
 
 pub returns-in-Publish-clause-made : goal.returns-in-Publish-clause-made

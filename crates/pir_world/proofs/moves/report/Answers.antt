@@ -3,7 +3,7 @@ use Rattle.std.specs.Prelude.{slice_get, slice_set}
 use Rattle.std.proofs.lemmas.Option.{slice_get_read}
 use Rattle.pir_world.specs.declared.steps.Outcome.{Outcome}
 use Rattle.pir_world.specs.Runs.{reported_at}
-use Rattle.pir_world.specs.Sides.{IsParts}
+use Rattle.pir_world.specs.Sides.{Implements}
 use Rattle.pir_world.proofs.Parts.{parts_reported}
 use Rattle.std.proofs.lemmas.List.{length-set}
 use Rattle.client_core.specs.declared.state.ClientFault.TheVariants as client_fault
@@ -18,7 +18,7 @@ returns-in-None-clause-made g c = on_map c.put_events.result _ _ (λ items core 
     elim (parts_reported x core e c.args.outcomes.now.items s c.args.k c.index_mut.result.now c.deliver_down.new.self p at c.retrieval_gives_the_record.ensures seeds
     c.args.most c.in-Ok.taken.out.items c.in-Ok.taken.events.items c.in-Ok.taken.fault inv c.in-Ok.ensures) [
       | inl m ↦ absurd (none_some (sym c.in-None.is ∙ m))
-      | inr t ↦ subst (λ (os : List Outcome). IsParts x core (slice_set e c.args.k c.deliver_down.new.self) os
+      | inr t ↦ subst (λ (os : List Outcome). Implements x core (slice_set e c.args.k c.deliver_down.new.self) os
           (reported_at s c.args.k c.args.most (slice_get s.links c.args.k))) (sym items) t.1
     ]) c.put_events.ensures.items
 

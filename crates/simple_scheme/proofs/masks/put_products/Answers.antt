@@ -2,8 +2,8 @@ use Rattle.std.proofs.Common.{◌≡◌, ℕ, arith, ap, refl, ◌∙◌, ◌+�
 use Rattle.matrix_u32.specs.Sum.{list_of, dot}
 use Rattle.matrix_u32.specs.Matrix.{WordMatrix, row}
 use Rattle.matrix_u32.proofs.Products.{length-list_of}
-use Rattle.seed_expand.specs.Words.{source_word, further, rows_from}
-use Rattle.seed_expand.proofs.Sources.{further-further, row-rows_from}
+use Rattle.seed_expand.specs.Words.{source_word, further, source_rows}
+use Rattle.seed_expand.proofs.Sources.{further-further, row-source_rows}
 use Rattle.simple_scheme.specs.Masks.{row_products}
 use Rattle.simple_scheme.proofs.Rows.{no_rows_of, one_row, all_rows}
 use Rattle.simple_scheme.proofs.MaskColumns.{row-row_products}
@@ -15,7 +15,7 @@ loop-j-init g c = record {
   source =
       let here : c.args.source.word_pos ≡ (c.args.source.word_pos + 0 * c.args.secrets.now.cols) % 2 ^ 68 = omega (arith, c.place.ensures.bound) in
       ap (λ (p : ℕ). record { key = c.args.source.key; stream = c.args.source.stream; word_pos = p }) here;
-  written = no_rows_of (row_products (rows_from c.args.source c.args.products.now.rows c.args.secrets.now.cols) c.args.secrets.now) c.args.products.now refl
+  written = no_rows_of (row_products (source_rows c.args.source c.args.products.now.rows c.args.secrets.now.cols) c.args.secrets.now) c.args.products.now refl
       c.requires.cols c.rows-j-end.ensures.whole;
 }
 
@@ -23,13 +23,13 @@ pub loop-j-preserved : goal.loop-j-preserved
 loop-j-preserved g c =
     let n : ℕ = c.args.secrets.now.cols in
     let m : ℕ = c.args.products.now.rows in
-    let a : WordMatrix = rows_from c.args.source m n in
+    let a : WordMatrix = source_rows c.args.source m n in
     let j : ℕ = c.loop-j.j in
     let given : c.fill_words.new.out ≡ row a j =
     c.fill_words.ensures.words
     ∙ ap (λ k. list_of k (source_word c.loop-j.source)) c.loop-j.invariant.wide
     ∙ ap (λ s. list_of n (source_word s)) c.loop-j.invariant.source
-    ∙ row-rows_from c.args.source m n j (omega (arith, c.rows-j-end.ensures.value)) in
+    ∙ row-source_rows c.args.source m n j (omega (arith, c.rows-j-end.ensures.value)) in
     record {
       wide = ap length given ∙ length-list_of n _;
       source = c.fill_words.ensures.source
@@ -45,5 +45,5 @@ loop-j-preserved g c =
 pub returns : goal.returns
 returns g c =
     all_rows c.args.products.now.rows c.args.secrets.now.rows c.loop-j.j
-    (λ j k. dot (row (rows_from c.args.source c.args.products.now.rows c.args.secrets.now.cols) j) (row c.args.secrets.now k)) c.loop-j.products
+    (λ j k. dot (row (source_rows c.args.source c.args.products.now.rows c.args.secrets.now.cols) j) (row c.args.secrets.now k)) c.loop-j.products
     (omega (arith, c.rows-j-end.ensures.value)) c.loop-j.invariant.written

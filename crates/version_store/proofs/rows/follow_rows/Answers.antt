@@ -1,8 +1,8 @@
 use Rattle.std.proofs.Common.{◌≡◌, ◌∙◌, arith, sym, subst, ℕ, List}
 use Rattle.matrix_u32.specs.Matrix.{WordMatrix}
 use Rattle.hint_update.specs.Updates.{AreRowsBelow, FollowsListed, TakesRows, moved_by_rows}
-use Rattle.hint_update.specs.Words.{IsRowsRoom}
-use Rattle.hint_update.specs.declared.rows.RowsRoom.{RowsRoom}
+use Rattle.hint_update.specs.Words.{IsRowsBuffers}
+use Rattle.hint_update.specs.declared.rows.RowsBuffers.{RowsBuffers}
 use Rattle.version_store.proofs.ListedRows.{marked_listed, listed_below}
 use Rattle.version_store.proofs.RowLemmas.{none_followed, part_followed, all_followed}
 use Rattle.version_store.proofs.rows.follow_rows.Goals as goal
@@ -31,7 +31,7 @@ update_double_rows-requires-clause-listed g c =
 
 pub update_double_rows-requires-clause-room : goal.update_double_rows-requires-clause-room
 update_double_rows-requires-clause-room g c =
-    subst (λ n. IsRowsRoom c.loop-r.room.rows.public.rows n c.loop-r.room.rows) (sym c.requires.second_cols) c.loop-r.invariant.room.rows
+    subst (λ n. IsRowsBuffers c.loop-r.room.rows.public.rows n c.loop-r.room.rows) (sym c.requires.second_cols) c.loop-r.invariant.room.rows
 
 pub loop-r-preserved : goal.loop-r-preserved
 loop-r-preserved g c =
@@ -47,14 +47,14 @@ loop-r-preserved g c =
     let listed : List ℕ = c.list_marked-r.new.listed.items in
     let same : c.deref.result.now ≡ listed = c.deref.ensures.value in
     let e : _ = c.update_double_rows.ensures in
-    let rows : RowsRoom = c.update_double_rows.new.room in
+    let rows : RowsBuffers = c.update_double_rows.new.room in
     let same_rows : rows.public.rows ≡ c.loop-r.room.rows.public.rows = e.room.public_rows in
     record {
       within = c.list_marked-r.ensures.inside;
       room = record {
         some = omega (arith, same_rows, c.loop-r.invariant.room.some);
-        rows = subst (λ n. IsRowsRoom n hint.cols rows) (sym same_rows)
-            (subst (λ n. IsRowsRoom c.loop-r.room.rows.public.rows n rows) c.requires.second_cols e.room);
+        rows = subst (λ n. IsRowsBuffers n hint.cols rows) (sym same_rows)
+            (subst (λ n. IsRowsBuffers c.loop-r.room.rows.public.rows n rows) c.requires.second_cols e.room);
         listed = omega (arith, same_rows, c.loop-r.invariant.room.listed, c.list_marked-r.ensures.room);
       };
       most = c.loop-r.invariant.most ∙ sym same_rows;

@@ -1,5 +1,5 @@
 use Rattle.std.proofs.Common.{◌≡◌, ◌≤◌, ◌-◌, length}
-use Rattle.version_store.specs.Rooms.{IsRoomForRows}
+use Rattle.version_store.specs.Buffers.{IsRoomForRows}
 use Rattle.version_store.proofs.RowLemmas.{FollowsTo}
 use Rattle.version_store.proofs.rows.follow_rows.Given as goal
 

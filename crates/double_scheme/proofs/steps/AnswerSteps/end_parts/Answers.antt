@@ -4,7 +4,7 @@ use Rattle.lane_kernels.specs.Digit.{split_count}
 use Rattle.matrix_u32.specs.Matrix.{WordMatrix, times_vector}
 use Rattle.digit_pack.specs.Layout.{Shape, digit_cols, digits_per_record}
 use Rattle.double_scheme.specs.Double.{double_answer, first_answer_of, part_of_query, words_of_part}
-use Rattle.double_scheme.specs.Steps.{HasFirst, HasStepsRoom}
+use Rattle.double_scheme.specs.Steps.{HasFirst, HasStepsBuffers}
 use Rattle.double_scheme.specs.declared.steps.AnswerSteps.{AnswerSteps}
 use Rattle.double_scheme.proofs.StepLemmas.{no_part_rows, part_further, parts_joined, room_after}
 use Rattle.double_scheme.proofs.steps.AnswerSteps.end_parts.Goals as goal
@@ -15,7 +15,7 @@ returns-clause-so_far g c d a2 cols first_is so_far =
     let l : Shape = s.layout in
     let h : WordMatrix = g.S.DigitStore.digits c.args.server_hint.now in
     let query : List ℕ = c.args.query.now in
-    let room : HasStepsRoom l a2.cols s = subst (λ n. HasStepsRoom l n s) (sym cols) c.requires.room in
+    let room : HasStepsBuffers l a2.cols s = subst (λ n. HasStepsBuffers l n s) (sym cols) c.requires.room in
     let x : _ = with_items_is s.x c.end_both-next.new.x (c.end_both-next.ensures.x_len ∙ ap length c.deref_mut.ensures.value ∙ sym s.x.ok.0) in
     let y : _ = with_items_is s.y c.end_both-next.new.y (c.end_both-next.ensures.y_len ∙ ap length c.deref_mut-2.ensures.value ∙ sym s.y.ok.0) in
     let words : _ = with_items_is s.words c.end_both-next.new.words (c.end_both-next.ensures.words_len ∙ ap length c.deref_mut-3.ensures.value ∙ sym s.words.ok.0) in

@@ -9,7 +9,7 @@ use Rattle.server_core.proofs.session.Session.feed_frame.Goals as goal
 
 pub returns-clause-fed : goal.returns-clause-fed
 returns-clause-fed g c h s =
-    rw (← c.self.view_is, c.used_of-count.ensures c.args.piece.now refl)
+    rw (← c.self.view_is, c.bytes_consumed-count.ensures c.args.piece.now refl)
     (first_well (setting_of c.args.store.now) h (record { standing = c.self.inside.standing; unfinished = c.self.inside.reader })
     c.args.piece.now c.serve_read.new.store c.in-Ok.standing c.feed_frame-read.new.self c.args.out.now.items c.serve_read.new.out.items c.feed_frame-read.result
     (sym c.is_closed.ensures ∙ c.if-is_closed.false) (rw c.has_wide_frames.ensures at c.feed_frame-read.ensures) (c.in-Ok.ensures.ok h s))
@@ -23,7 +23,7 @@ returns-in_default-clause-fed g c h s =
 
 pub returns-clause-some : goal.returns-clause-some
 returns-clause-some g c lt =
-    rw (c.used_of-count.ensures c.args.piece.now refl)
+    rw (c.bytes_consumed-count.ensures c.args.piece.now refl)
     (used_some c.has_wide_frames.result c.self.inside.reader c.args.piece.now c.feed_frame-read.result c.feed_frame-read.new.self c.feed_frame-read.ensures lt)
 
 pub returns-clause-version : goal.returns-clause-version

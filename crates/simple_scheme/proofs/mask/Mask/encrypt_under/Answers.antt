@@ -1,15 +1,15 @@
 use Rattle.std.proofs.Common.{ap, sym, ◌∙◌, ◌≡◌, ℕ, ℤ, List, length}
-use Rattle.seed_expand.specs.Words.{rows_from}
+use Rattle.seed_expand.specs.Words.{source_rows}
 use Rattle.matrix_u32.specs.Matrix.{WordMatrix, times_vector}
 use Rattle.regev_core.specs.Encryption.{cipher, with_noise}
 use Rattle.regev_core.proofs.Masking.{noise_on_products}
-use Rattle.simple_scheme.specs.Rooms.{Masking}
+use Rattle.simple_scheme.specs.Buffers.{Masking}
 use Rattle.simple_scheme.proofs.mask.Mask.encrypt_under.Goals as goal
 
 pub returns-clause-words : goal.returns-clause-words
 returns-clause-words g c =
     let m : ℕ = length c.args.out.now in
-    let a : List ℕ → WordMatrix = λ (s : List ℕ). rows_from c.args.source m (length s) in
+    let a : List ℕ → WordMatrix = λ (s : List ℕ). source_rows c.args.source m (length s) in
     let s : c.deref.result.now ≡ c.args.self.now.secret = c.deref.ensures.value ∙ ap (λ (x : Masking). x.secret) c.self.view_is in
     let e : c.deref-2.result.now ≡ c.args.self.now.noise = c.deref-2.ensures.value ∙ ap (λ (x : Masking). x.noise) c.self.view_is in
     c.add_noise.ensures

@@ -6,7 +6,7 @@ use Rattle.lane_kernels.specs.Digit.{split_count}
 use Rattle.digit_pack.specs.Layout.{digit_rows, record_at}
 use Rattle.version_store.specs.Drafts.{draft_of, bytes_or, change_at}
 use Rattle.version_store.specs.Editions.{Records, version_shape, MarksChanges}
-use Rattle.version_store.specs.Rooms.{IsRoomForRows}
+use Rattle.version_store.specs.Buffers.{IsRoomForRows}
 use Rattle.version_store.proofs.DoubleLemmas.{server_rows, server_cols, client_rows, client_cols, version_followed}
 use Rattle.version_store.proofs.edition.Edition.apply.Goals as goal
 

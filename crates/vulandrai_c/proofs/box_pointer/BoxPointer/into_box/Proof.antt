@@ -66,7 +66,8 @@ into_box_spec 𝓤 𝓛 𝓜 𝓡 wired T A L LA g d dx dd allocator drops_value
     let typed = two_words_typed R Z LZ g b o h good in
     let called = triple_of 𝓛 (rebuilt.signature T A g d dd) (rebuilt.spec T A g d dd 𝓛 𝓜.mem 𝓡.returns) in
     let z : called.Ghost = ((κs, qs, tt, (a, (block_ptr b o, tt)), (h ∷ [], (vptr b o ∷ [], tt))), parts.content) in
-    -- what the callee asks for: that both types outlive the call, the handle and the pointer, and what the box owns
+    -- what the callee asks for: that both types outlive the call, the handle and the pointer, and
+    -- what the box owns
     move ! (4 ∷ []) $ use1 𝓛 (raw (fact 𝓤 (κs.0 ⊑ T.lives)) ⊛ raw (fact 𝓤 (κs.1.0 ⊑ A.lives)) ⊛ ‵ ftrue) (id⊢ 𝓤 _)
     $ split3 ! $ move ! (2 ∷ []) $ drop ! $ move ! (1 ∷ 2 ∷ []) $ join ! $ move ! (1 ∷ 0 ∷ []) $ join !
     $ move ! (2 ∷ []) $ feq_i ! (List Val) (vptr b o ∷ []) (vptr b o ∷ []) refl $ fjoin ! $ move ! (2 ∷ 0 ∷ []) $ fjoin !

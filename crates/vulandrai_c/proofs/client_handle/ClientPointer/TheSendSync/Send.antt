@@ -11,9 +11,9 @@ use Rattle.std.specs.declared.option.Option.TheVariants.{None, Some}
 use Rattle.std.proofs.Crossing.{frees}
 use Rattle.std.proofs.alloc.Global.TheSendSync as heap
 use Rattle.vulandrai_c.specs.ClientHandles.{owned_at}
-use Rattle.client_session.specs.declared.ClientSession.{ClientSession}
-use Rattle.client_session.specs.contracts.ClientSession as session
-use Rattle.client_session.proofs.ClientSession.TheSendSync.{the_send}
+use Rattle.foreign_sessions.specs.declared.client.ClientSession.{ClientSession}
+use Rattle.foreign_sessions.specs.contracts.client.ClientSession as session
+use Rattle.foreign_sessions.proofs.client.ClientSession.TheSendSync.{the_send}
 use Rattle.vulandrai_c.specs.contracts.client_handle.ClientPointer.{the_row, the_type}
 
 owned_keyless : (a : Global) (p : Ptr) (c : Option ClientSession) → Keyless (owned_at a p c)

@@ -24,7 +24,7 @@ use Rattle.std.specs.contracts.impls.GlobalAllocator.TheImpl.{ghosts}
 use Rattle.std.proofs.raw_atomic.Walks.{proved_at, leaves}
 use Rattle.vulandrai_c.proofs.Fields.{two_words, two_words_typed}
 use Rattle.vulandrai_c.proofs.ClientPointerValue.{R, Z, LZ, null_made}
-use Rattle.client_session.specs.declared.ClientSession.{ClientSession}
+use Rattle.foreign_sessions.specs.declared.client.ClientSession.{ClientSession}
 use Rattle.vulandrai_c.specs.contracts.client_handle.ClientPointer.null as f
 use Rattle.vulandrai_c.specs.contracts.client_handle.ClientPointer.null.Key.{name as this}
 use Rattle.vulandrai_c.proofs.client_handle.ClientPointer.null.Statement.{statement}

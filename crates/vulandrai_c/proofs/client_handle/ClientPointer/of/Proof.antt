@@ -22,7 +22,7 @@ use Rattle.std.specs.contracts.impls.GlobalAllocator.TheImpl.{ghosts}
 use Rattle.std.proofs.raw_atomic.Walks.{proved_at, leaves}
 use Rattle.vulandrai_c.proofs.Fields.{Pointer, two_words, two_words_typed, pointer_apart}
 use Rattle.vulandrai_c.proofs.ClientPointerValue.{R, Z, LZ, session_made}
-use Rattle.client_session.specs.declared.ClientSession.{ClientSession}
+use Rattle.foreign_sessions.specs.declared.client.ClientSession.{ClientSession}
 use Rattle.vulandrai_c.specs.contracts.client_handle.ClientPointer.of as f
 use Rattle.vulandrai_c.specs.contracts.client_handle.ClientPointer.of.Key.{name as this}
 use Rattle.vulandrai_c.proofs.client_handle.ClientPointer.of.Statement.{statement}

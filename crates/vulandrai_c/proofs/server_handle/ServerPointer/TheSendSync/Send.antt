@@ -11,9 +11,9 @@ use Rattle.std.specs.declared.option.Option.TheVariants.{None, Some}
 use Rattle.std.proofs.Crossing.{frees}
 use Rattle.std.proofs.alloc.Global.TheSendSync as heap
 use Rattle.vulandrai_c.specs.ServerHandles.{owned_at}
-use Rattle.server_session.specs.declared.ServerSession.{ServerSession}
-use Rattle.server_session.specs.contracts.ServerSession as session
-use Rattle.server_session.proofs.ServerSession.TheSendSync.{the_send}
+use Rattle.foreign_sessions.specs.declared.server.ServerSession.{ServerSession}
+use Rattle.foreign_sessions.specs.contracts.server.ServerSession as session
+use Rattle.foreign_sessions.proofs.server.ServerSession.TheSendSync.{the_send}
 use Rattle.vulandrai_c.specs.contracts.server_handle.ServerPointer.{the_row, the_type}
 
 owned_keyless : (a : Global) (p : Ptr) (c : Option ServerSession) → Keyless (owned_at a p c)

@@ -24,7 +24,7 @@ use Rattle.std.specs.contracts.impls.GlobalAllocator.TheImpl.{ghosts}
 use Rattle.std.proofs.raw_atomic.Walks.{proved_at, leaves}
 use Rattle.vulandrai_c.proofs.Fields.{two_words, two_words_typed}
 use Rattle.vulandrai_c.proofs.ServerPointerValue.{R, Z, LZ, null_made}
-use Rattle.server_session.specs.declared.ServerSession.{ServerSession}
+use Rattle.foreign_sessions.specs.declared.server.ServerSession.{ServerSession}
 use Rattle.vulandrai_c.specs.contracts.server_handle.ServerPointer.null as f
 use Rattle.vulandrai_c.specs.contracts.server_handle.ServerPointer.null.Key.{name as this}
 use Rattle.vulandrai_c.proofs.server_handle.ServerPointer.null.Statement.{statement}

@@ -22,7 +22,7 @@ use Rattle.std.specs.contracts.impls.GlobalAllocator.TheImpl.{ghosts}
 use Rattle.std.proofs.raw_atomic.Walks.{proved_at, leaves}
 use Rattle.vulandrai_c.proofs.Fields.{Pointer, two_words, two_words_typed, pointer_apart}
 use Rattle.vulandrai_c.proofs.ServerPointerValue.{R, Z, LZ, session_made}
-use Rattle.server_session.specs.declared.ServerSession.{ServerSession}
+use Rattle.foreign_sessions.specs.declared.server.ServerSession.{ServerSession}
 use Rattle.vulandrai_c.specs.contracts.server_handle.ServerPointer.of as f
 use Rattle.vulandrai_c.specs.contracts.server_handle.ServerPointer.of.Key.{name as this}
 use Rattle.vulandrai_c.proofs.server_handle.ServerPointer.of.Statement.{statement}

@@ -1,0 +1,16 @@
+use Rattle.std.proofs.Common.{◌≡◌, ℕ, ◌<◌, ◌+◌, length}
+use Rattle.matrix_u32.specs.Matrix.{entry}
+use Rattle.hint_update.specs.Updates.{digit_change}
+use Rattle.hint_update.proofs.Blocks.{TakesColumns}
+use Rattle.hint_update.proofs.rows.replace_digits.Given as goal
+
+abbrev pub invariant-loop-k : goal.invariant-loop-k
+invariant-loop-k g l = record {
+  server : TakesColumns l.w l.hint (g.S.DigitStore.digits l.fn.server_hint) (g.S.DigitStore.digits l.server_hint) l.listed l.k l.first l.count;
+  rows : l.changes.rows ≡ l.fn.changes.rows;
+  cols : l.changes.cols ≡ l.fn.changes.cols;
+  changes : (b k : ℕ) → b < l.count → k < l.k →
+      entry l.changes b k ≡ digit_change l.w l.hint (g.S.DigitStore.digits l.fn.server_hint) l.listed (l.first + b) k;
+  new_count : length l.new ≡ l.count;
+  old_count : length l.old ≡ l.count;
+}

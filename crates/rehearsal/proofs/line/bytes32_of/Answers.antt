@@ -1,5 +1,0 @@
-use Rattle.rehearsal.proofs.Values.{bytes32_is}
-use Rattle.rehearsal.proofs.line.bytes32_of.Goals as goal
-
-pub returns : goal.returns
-returns c = bytes32_is c.args.text.now c.bytes32_from_hex.result c.bytes32_from_hex.ensures.value c.bytes32_from_hex.ensures.found

@@ -1,8 +1,0 @@
-use Rattle.std.proofs.Common.{take}
-use Rattle.std.specs.Io.KnownBytes.{Appends}
-use Rattle.std.specs.List.{flat_map}
-use Rattle.rehearsal.specs.Texts.{outcome_text}
-use Rattle.rehearsal.proofs.progress.say_all.Given as goal
-
-abbrev pub invariant-loop-outcome : goal.invariant-loop-outcome
-invariant-loop-outcome g l = Appends (g.W.Write.contents l.fn.writer) (g.W.Write.contents l.writer) (flat_map outcome_text (take l.outcome-index l.outcomes))

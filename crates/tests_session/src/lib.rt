@@ -1,0 +1,20 @@
+//! Tests of both cores, of the engines that run them, of the client's commands, and of the file of
+//! a hint.
+//!
+//! The gate proves a crate that has tests twice, once with them. The tests of `server_core`,
+//! `client_core`, `blocking_io`, `client_commands` and `hint_file` make public calls alone, so
+//! they stand here, above them all. Those in `src` are proved over what these calls promise, and
+//! then run. The others are modules in `tests/long/tests_session`, which the gate runs alone, and
+//! which `tests/long/run --prove` proves.
+#![tactic(auto)]
+
+#[cfg(test)]
+mod client;
+#[cfg(test)]
+mod engines;
+#[cfg(test)]
+mod folders;
+#[cfg(test)]
+mod hints;
+#[cfg(test)]
+mod server;
