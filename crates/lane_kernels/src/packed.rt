@@ -1,9 +1,9 @@
 //! Products with digits that are packed three in a word, with no masks.
 //!
-//! Let a word be `d + 2^10 e + 2^20 f`, with digits below 2^10, and let `b = y - 2^10 x` and `c = z
-//! - 2^10 y` modulo 2^32. Then `word x + (word >> 10) b + (word >> 20) c` is `d x + e y + f z`
-//! modulo 2^32: what stands above a digit in one term is taken off by the next. So the vector alone
-//! is prepared, once for all rows.
+//! Let a word be `d + 2^10 e + 2^20 f`, with digits below 2^10, and let `b = y - 2^10 x` and
+//! `c = z - 2^10 y` modulo 2^32. Then `word x + (word >> 10) b + (word >> 20) c` is
+//! `d x + e y + f z` modulo 2^32: what stands above a digit in one term is taken off by the next.
+//! So the vector alone is prepared, once for all rows.
 
 ghost use Rattle.std.specs.Prelude.{◌≡◌, ℕ, ◌∷◌, [], ◌<◌, ◌≤◌, ◌+◌, ◌*◌, ◌%◌, ◌^◌, length};
 ghost use Rattle.std.specs.Prelude.{slice_index, slice_range, All};
