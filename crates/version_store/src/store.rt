@@ -169,8 +169,7 @@ impl From<AllocError> for PublishError {
     }
 }
 
-/// The current version of the records, with its hints, the draft of the next, and a log of the rows
-/// of digits that the latest publications changed.
+/// The current version of the records, its hints, the draft of the next, and a log of changed rows.
 ///
 /// The draft is kept as its changes alone, with the count of its records: those appended are
 /// changes of blanks after the records of the version. Contracts see a store as what it holds,
@@ -208,8 +207,7 @@ impl<K: Kernel> Model for Store<K> {
 }
 
 impl<K: Kernel> Store<K> {
-    /// The store of a snapshot's records, with an empty draft; its hints are made by the schemes'
-    /// `setup`. The store keeps the allocator.
+    /// The store of a snapshot's records, with an empty draft. It keeps the allocator.
     ///
     /// `BadLayout` exactly when there is no such form, or it is 2 for records of one byte, the
     /// layout is refused or the dimension is not in 1 to 1024; else `BadVersion` exactly when the
@@ -232,9 +230,8 @@ impl<K: Kernel> Store<K> {
         Ok(Store::hold(alloc, kernel, &header, held, &mut Unwatched)?)
     }
 
-    /// The store of the records that are held for the fields of a snapshot, with an empty draft;
-    /// its hints are made by the schemes' `setup`, watched while their rows are made. The store
-    /// keeps the allocator. Only refused memory gives an `Err`.
+    /// The store of the records that are held for the fields of a snapshot; its hints are watched
+    /// while their rows are made. Only refused memory gives an `Err`.
     pub(crate) fn hold<W: HintWatcher>(
         alloc: Global,
         kernel: K,
@@ -266,12 +263,11 @@ impl<K: Kernel> Store<K> {
     }
 
     /// The store of the snapshot that a reader has, which must be the whole input, and the
-    /// snapshot's digest, by which a log of publications names it. The store keeps the allocator.
+    /// snapshot's digest, by which a log of publications names it.
     ///
     /// # Errors
     ///
-    /// Those of `read_snapshot`, each with the byte that makes it; nothing else keeps a snapshot
-    /// that was read from being opened but `Memory`.
+    /// Those of `read_snapshot`, each with the byte that makes it; else `Memory` alone.
     pub fn open_from<R: Read>(
         alloc: Global,
         kernel: K,
@@ -312,9 +308,8 @@ impl<K: Kernel> Store<K> {
         }
     }
 
-    /// The bytes that all records of the current version of an ordinary store have in the digits,
-    /// record 0 first: in form 2 those of their slots. A wide store keeps no bytes beside its
-    /// digits; [`Store::copy_record`] reads a record of either kind.
+    /// The bytes that all records of an ordinary store's current version have in the digits, in form
+    /// 2 those of their slots. A wide store keeps none; [`Store::copy_record`] reads both.
     pub fn bytes(&self) -> &[u8]
         requires { is_wide self.now.edition.plan.form ≡ false }
         ensures { result.now ≡
@@ -323,8 +318,7 @@ impl<K: Kernel> Store<K> {
         self.edition.bytes()
     }
 
-    /// How many bytes all records of the current version have in the digits: in forms of slots
-    /// those of their slots.
+    /// How many bytes all records of the current version have in the digits, slots as they are.
     pub fn bytes_len(&self) -> usize
         ensures value { result ≡
             length (bytes_of_records (slots self.now.edition.plan self.now.edition.records)) }
@@ -398,9 +392,8 @@ impl<K: Kernel> Store<K> {
         self.edition.record(i)
     }
 
-    /// Writes the bytes of record i in the current version to the beginning of `out`, and answers
-    /// how many they are: in forms of slots fewer than `out` has, and after them anything may
-    /// follow. It takes no memory.
+    /// Writes the bytes of record i to the beginning of `out`, and answers how many they are: in
+    /// forms of slots fewer than `out` has, and anything may follow them. It takes no memory.
     pub fn copy_record(&self, i: usize, out: &mut [u8]) -> usize
         requires index { i < length self.now.edition.records }
         requires room { length out.old ≡ self.now.edition.plan.record_len }
@@ -463,8 +456,7 @@ impl<K: Kernel> Store<K> {
 
     /// The rows of digits, ascending, in which some two consecutive versions from `version` to the
     /// current one differ: a SimplePIR hint of that version is brought forward by these rows of the
-    /// current hint. None are in the list where `version` is the current one, or where every
-    /// publication since left the digits as they were.
+    /// current one. There are none if no publication since has changed the digits.
     ///
     /// `None` exactly when `version` is neither the current one nor one of the 16 before it that
     /// this store has seen. Only refused memory gives an `Err`.
@@ -481,14 +473,12 @@ impl<K: Kernel> Store<K> {
         self.log.rows_since(version)
     }
 
-    /// What differs between an earlier version and the current one, as entries: of each record that
-    /// differs its index in four bytes, the bytes that it had in the digits and those that it has,
-    /// ascending. A record that was appended since had a blank. Only a wide store keeps what it
-    /// needs for this.
+    /// What differs between an earlier version and the current one, as ascending entries: of each
+    /// record its index in four bytes, the bytes that it had in the digits and those that it has. A
+    /// record appended since had a blank. Only a wide store keeps what this needs.
     ///
-    /// `None` if the version is neither the current one nor one of the 16 before it, or old bytes
-    /// since then were dropped, or the entries have more than `most` bytes. Only refused memory
-    /// gives an `Err`.
+    /// `None` if the version is neither current nor one of the 16 before, if old bytes since were
+    /// dropped, or for more than `most` bytes. Only refused memory gives an `Err`.
     pub fn changes_since(&self, version: u64, most: usize) -> Result<Option<Vec<u8>>, AllocError>
         ensures history { (h : History) → StandsFor self.now h → IfOk result (λ made.
             option_map (λ v. v.items) made ≡ changes_since self.now.edition.plan h version most) }
@@ -543,17 +533,15 @@ impl<K: Kernel> Store<K> {
         self.edition.begin_answer(self.alloc, scheme, words)
     }
 
-    /// Makes one more step of the answer that was begun, and answers whether there is none left to
-    /// make: also when no answer was begun, or it was given up since the version has changed. It
-    /// takes no memory.
+    /// Makes one more step of the answer that was begun, and answers whether none is left: also if
+    /// none was begun, or it was given up for another version. It takes no memory.
     pub fn step_answer(&mut self) -> bool
         ensures { self.new ≡ self.old }
     {
         self.edition.step_answer()
     }
 
-    /// The answer that was begun, if all its steps were made and it is the one to these words on
-    /// the current version. It is given once.
+    /// The answer that was begun, once, if it is whole and to these words on the current version.
     pub fn take_answer(&mut self, scheme: Scheme, words: &[u32]) -> Option<Vec<u32>>
         ensures same { self.new ≡ self.old }
         ensures answer { IfSome result (λ answer. answer.items ≡ answer_words scheme
@@ -569,8 +557,7 @@ impl<K: Kernel> Store<K> {
         self.edition.drop_answer();
     }
 
-    /// The answer to the words of a query on the current version, in the scheme that the room is
-    /// for. It takes no memory.
+    /// The answer to the words of a query, in the scheme of the buffers. It takes no memory.
     pub fn answer_in(&self, room: AnswerBuffers, words: &[u32]) -> Vec<u32>
         requires words { length words.now ≡
             query_count (scheme_answered room) (version_shape self.now.edition) }
@@ -604,8 +591,7 @@ impl<K: Kernel> Store<K> {
         self.answer(Scheme::Simple, words)
     }
 
-    /// The answer to the words of a DoublePIR query: κ n words, and κ (n + 1) for each digit of a
-    /// record.
+    /// The answer to a DoublePIR query's words: κ n words, and κ (n + 1) a digit of a record.
     pub fn answer_double(&self, words: &[u32]) -> Result<Vec<u32>, AllocError>
         requires { length words.now ≡ query_count Scheme.Double (version_shape self.now.edition) }
         ensures { IfOk result (λ v.
@@ -615,8 +601,7 @@ impl<K: Kernel> Store<K> {
         self.answer(Scheme::Double, words)
     }
 
-    /// Replaces record i of the draft: no reader sees it before its publication, and a later edit
-    /// of the same record replaces it.
+    /// Replaces record i of the draft, which no reader sees before its publication.
     ///
     /// `BadIndex` exactly when the draft has no record i; else `BadLength` exactly when the bytes
     /// can't be a record; else it is accepted, or `Memory`. A refused edit changes nothing.
@@ -649,12 +634,10 @@ impl<K: Kernel> Store<K> {
         i < self.count
     }
 
-    /// Puts a record after those of the draft: no reader sees it before its publication, and until
-    /// then it can be edited like any other.
+    /// Puts a record after those of the draft. Until its publication it can be edited like others.
     ///
     /// `BadLength` exactly when the bytes can't be a record; else `Full` exactly when no layout has
-    /// one record more than the draft; else it is accepted, or `Memory`. A refused append changes
-    /// nothing.
+    /// one record more than the draft; else accepted, or `Memory`. A refused one changes nothing.
     pub fn append(&mut self, bytes: &[u8]) -> Result<(), AppendError>
         ensures accepted { OnOk result (self.new ≡ held_appended bytes.now self.old) }
         ensures history { OnOk result ((h : History) →
@@ -709,16 +692,14 @@ impl<K: Kernel> Store<K> {
         first_change(&self.changes, from)
     }
 
-    /// Whether an edit or an append was accepted since the last publication: so there is something
-    /// to publish.
+    /// Whether an edit or an append was accepted since the last publication.
     pub fn is_marked(&self) -> bool
         ensures { result ≡ self.now.marked }
     {
         !self.changes.is_empty()
     }
 
-    /// Drops the draft: no edit and no append that was accepted since the last publication is left
-    /// of it.
+    /// Drops the draft: no edit and no append since the last publication is left of it.
     pub fn drop_draft(&mut self)
         ensures dropped { self.new ≡ without_draft self.old }
         ensures history { (h : History) → StandsFor self.old h →
@@ -732,8 +713,7 @@ impl<K: Kernel> Store<K> {
     ///
     /// `NothingToPublish` exactly when no edit and no append was accepted since the last
     /// publication; else `VersionsUsedUp` exactly when the current version is 2^64 - 1; else it is
-    /// done, or `Memory`. A refused publication changes nothing. All memory is asked for before
-    /// anything changes.
+    /// done, or `Memory`. A refused one changes nothing: all memory is asked for first.
     pub fn publish(&mut self) -> Result<u64, PublishError>
         ensures version { IfOk result (λ v. (v ≡ self.old.version + 1) × (v < 2 ^ 64)) }
         ensures done { OnOk result (self.new ≡ held_published self.old) }
@@ -780,12 +760,10 @@ impl<K: Kernel> Store<K> {
     }
 }
 
-/// Writes the snapshot of the current version; edits that were not published are not in it. The
-/// records of a wide store are read out of their digits, as many at a time as 64 KiB have; no other
-/// memory is taken but the header's.
+/// Writes the snapshot of the current version. Records of a wide store are read out of their
+/// digits, as many at a time as 64 KiB have; no other memory is taken but the header's.
 ///
-/// After `Write`, where a write failed or took no byte, a part of it went out, and not the whole;
-/// `Memory` comes before the first byte.
+/// After `Write` a part of it went out, and not the whole; `Memory` comes before the first byte.
 pub fn write_snapshot<K: Kernel, W: Write>(
     alloc: Global,
     store: &Store<K>,
