@@ -188,6 +188,51 @@ static void say(const char *name, double words, double products, double nanos, c
         least;                                                                                                       \
     })
 
+// Several vectors at once, for which a row is read once: x[v][u][j] is place 3 j + u of vector v.
+#define PACKED_BY(NAME, ROWS, VECTORS)                                                                               \
+    KERNEL void NAME(const word *a, size_t rows, size_t width, word *const (*x)[3], word *const *out)                \
+    {                                                                                                                \
+        for (size_t i = 0; i + ROWS <= rows; i += ROWS) {                                                            \
+            word sums[VECTORS][ROWS] = {{0}};                                                                        \
+            const word *some = a + i * width;                                                                        \
+            for (size_t j = 0; j < width; j++)                                                                       \
+                for (int r = 0; r < ROWS; r++) {                                                                     \
+                    word w = some[r * width + j], d0 = w & DIGIT, d1 = (w >> 10) & DIGIT, d2 = (w >> 20) & DIGIT;    \
+                    for (int v = 0; v < VECTORS; v++)                                                                \
+                        sums[v][r] += d0 * x[v][0][j] + d1 * x[v][1][j] + d2 * x[v][2][j];                           \
+                }                                                                                                    \
+            for (int v = 0; v < VECTORS; v++)                                                                        \
+                memcpy(out[v] + i, sums[v], sizeof sums[v]);                                                         \
+        }                                                                                                            \
+    }
+PACKED_BY(packed_two_by_two, 2, 2)
+PACKED_BY(packed_four_by_two, 4, 2)
+PACKED_BY(packed_two_by_four, 2, 4)
+
+// The packed products with two and with four vectors of 3 width words, by the quicker form of two, each beside the words
+// of the others.
+static void several(const word *packed, sizes n, int turns, word *const vectors[4])
+{
+    size_t count = n.rows * n.cols, packed_count = n.rows * n.width;
+    word *made = zeros(4 * n.rows), *x[4][3], *out[4];
+    for (int v = 0; v < 4; v++) {
+        out[v] = made + v * n.rows;
+        for (int u = 0; u < 3; u++) {
+            x[v][u] = zeros(n.width);
+            for (size_t j = 0; j < n.width; j++)
+                x[v][u][j] = vectors[v][3 * j + u];
+        }
+    }
+    double narrow = LEAST(turns, packed_two_by_two(packed, n.rows, n.width, x, out));
+    double took = LEAST(turns, packed_four_by_two(packed, n.rows, n.width, x, out));
+    say("packed matrix by two vectors at once", packed_count, 2 * count, took < narrow ? took : narrow, made, 2 * n.rows);
+    took = LEAST(turns, packed_two_by_four(packed, n.rows, n.width, x, out));
+    say("packed matrix by four vectors at once", packed_count, 4 * count, took, made, 4 * n.rows);
+    for (int v = 0; v < 4; v++)
+        free(x[v][0]), free(x[v][1]), free(x[v][2]);
+    free(made);
+}
+
 static void vectors(const word *digits, sizes n)
 {
     size_t count = n.rows * n.cols, packed_count = n.rows * n.width;
@@ -212,6 +257,7 @@ static void vectors(const word *digits, sizes n)
     memcpy(padded_y, y, sizeof(word) * n.cols);
     took = LEAST(TURNS, (packed_eight(packed, n.rows, n.width, padded, both), packed_eight(packed, n.rows, n.width, padded_y, both + n.rows)));
     say("packed matrix by two vectors", packed_count, 2 * count, took, both, 2 * n.rows);
+    several(packed, n, TURNS, (word *[]){padded, padded_y, padded, padded_y});
     took = LEAST(TURNS, packed_one(packed, n.rows, n.width, padded, out));
     say("packed matrix by vector, one row at once", packed_count, count, took, out, n.rows);
     free(x), free(padded), free(out), free(sum), free(packed), free(y), free(padded_y), free(both);
@@ -230,31 +276,12 @@ static void rate(const word *digits, sizes n)
     free(x), free(padded), free(out), free(packed);
 }
 
-// Two vectors at once: two rows of the matrix, which are read once for both.
-KERNEL void packed_two(const word *a, size_t rows, size_t width, const word *x, const word *y, word *x_out, word *y_out)
-{
-    for (size_t i = 0; i + 2 <= rows; i += 2) {
-        word sums[4] = {0};
-        const word *two = a + i * width;
-        for (size_t j = 0; j < width; j++)
-            for (int r = 0; r < 2; r++) {
-                word w = two[r * width + j], d0 = w & DIGIT, d1 = (w >> 10) & DIGIT, d2 = (w >> 20) & DIGIT;
-                sums[r] += d0 * x[3 * j] + d1 * x[3 * j + 1] + d2 * x[3 * j + 2];
-                sums[2 + r] += d0 * y[3 * j] + d1 * y[3 * j + 1] + d2 * y[3 * j + 2];
-            }
-        for (int r = 0; r < 2; r++) {
-            x_out[i + r] = sums[r];
-            y_out[i + r] = sums[2 + r];
-        }
-    }
-}
-
 // The packed products of a wide store.
 static void wide(sizes n)
 {
     size_t count = n.rows * n.cols, packed_count = n.rows * n.width;
     // Three digits of nine bits in a word, each in ten bits of it.
-    word *packed = filled(packed_count, 1, 511u | 511u << 10 | 511u << 20), *out = zeros(n.rows), *other = zeros(n.rows), one;
+    word *packed = filled(packed_count, 1, 511u | 511u << 10 | 511u << 20), *out = zeros(n.rows), one;
     word *x = filled(3 * n.width, 3, ~0u), *y = filled(3 * n.width, 8, ~0u);
     double took = LEAST(3, one = read_all(packed, packed_count));
     say("read the packed matrix", packed_count, 0, took, &one, 1);
@@ -262,9 +289,8 @@ static void wide(sizes n)
     say("packed matrix by vector, one row at once", packed_count, count, took, out, n.rows);
     took = LEAST(3, packed_eight(packed, n.rows, n.width, x, out));
     say("packed matrix by vector", packed_count, count, took, out, n.rows);
-    took = LEAST(3, packed_two(packed, n.rows, n.width, x, y, out, other));
-    say("packed matrix by two vectors", packed_count, 2 * count, took, out, n.rows);
-    free(packed), free(out), free(other), free(x), free(y);
+    several(packed, n, 3, (word *[]){x, y, x, y});
+    free(packed), free(out), free(x), free(y);
 }
 
 // The words of a hint, read once.

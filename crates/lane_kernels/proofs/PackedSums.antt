@@ -8,7 +8,7 @@ use Rattle.std.proofs.lemmas.List.{get_or-take, get_or-drop, get_or_past}
 use Rattle.std.proofs.lemmas.List.Elements.{All-get_or}
 use Rattle.std.proofs.lemmas.List.FromFn.{fill_by_all, length-range_with_len, length-map-range_with_len, get_or-map-range_with_len}
 use Rattle.std.proofs.lemmas.Nat.{row_fits}
-use Rattle.std.proofs.lemmas.Simd.{zip2_of_maps, splat_is_map}
+use Rattle.std.proofs.lemmas.Simd.{length-chunk, zip2_of_maps, splat_is_map}
 use Rattle.std.proofs.Math.Nat.{mul-add, add-mul, mul_assoc, mul_left_comm}
 use Rattle.matrix_u32.specs.Sum.{sum_below, dot}
 use Rattle.matrix_u32.specs.Matrix.{row}
@@ -17,7 +17,7 @@ use Rattle.matrix_u32.proofs.Remainders.{times_same}
 use Rattle.matrix_u32.proofs.Products.{at-list_of, length-list_of, dot-list_of, row-matrix_of}
 use Rattle.lane_kernels.specs.Digit.{digit}
 use Rattle.lane_kernels.specs.Packed.{packed_cols, unpacked}
-use Rattle.lane_kernels.specs.Carried.{shifted_products, shifted_sum, thirds, digit_products, products_at, plus_part}
+use Rattle.lane_kernels.specs.Carried.{lane_products, shifted_products, shifted_sum, digit_products, products_at, plus_part}
 use Rattle.lane_kernels.proofs.LaneSums.{chunk_at, chunk_is_map, lanes_total}
 
 -- the sum of the lanes, by index
@@ -119,6 +119,28 @@ shifted_end n k i s ws xs ys zs wt xt yt zt rest all le dw dx dy dz is so_far =
     let h = rw all at so_far in
     omega (arith, e, g, parts, w, h)
 
+-- what eight lanes hold after i vectors of a row's words
+abbrev pub IsLanesSum : List ℕ → List ℕ → List ℕ → List ℕ → ℕ → List ℕ → Type 0
+IsLanesSum ws xs ys zs i sum =
+    sum_l sum % 2 ^ 32 ≡ sum_below (i * 8) (λ t. shifted_products (slice_index ws t) (slice_index xs t) (slice_index ys t) (slice_index zs t)) % 2 ^ 32
+
+-- one vector more, whose products are these; p is the row's words by another name
+pub lanes_more : (i k : ℕ) (s p ws xs ys zs : List ℕ) (cw cx cy cz : List (List ℕ)) (r : List ℕ) → p ≡ ws → length s ≡ 8 → i < k
+    → k * 8 ≤ length p → k * 8 ≤ length xs → k * 8 ≤ length ys → k * 8 ≤ length zs
+    → cw ≡ first_chunks 8 k p → cx ≡ first_chunks 8 k xs → cy ≡ first_chunks 8 k ys → cz ≡ first_chunks 8 k zs
+    → r ≡ lane_products (get_or cw i []) (get_or cx i []) (get_or cy i []) (get_or cz i [])
+    → IsLanesSum ws xs ys zs i s → IsLanesSum ws xs ys zs (i + 1) (zip2 (λ x y. (x + y) % 2 ^ 32) s r)
+lanes_more i k s p ws xs ys zs cw cx cy cz r same long below fw fx fy fz ew ex ey ez is so_far =
+    rw (is, ew, ex, ey, ez, ← same) (shifted_more 8 i k s p xs ys zs long below fw fx fy fz (rw (← same) at so_far))
+
+-- all lanes together, and the words that are left
+pub lanes_end : (k i : ℕ) (s p ws xs ys zs wt xt yt zt : List ℕ) (result : ℕ) → p ≡ ws → i ≡ k → k * 8 ≤ length p
+    → wt ≡ drop (k * 8) p → xt ≡ drop (k * 8) xs → yt ≡ drop (k * 8) ys → zt ≡ drop (k * 8) zs
+    → result ≡ (fold_l (λ a x. (a + x) % 2 ^ 32) 0 s + shifted_sum wt xt yt zt) % 2 ^ 32
+    → IsLanesSum ws xs ys zs i s → result ≡ shifted_sum ws xs ys zs
+lanes_end k i s p ws xs ys zs wt xt yt zt result same all le dw dx dy dz is so_far =
+    is ∙ rw (← same) (shifted_end 8 k i s p xs ys zs wt xt yt zt (shifted_sum wt xt yt zt) all le dw dx dy dz refl (rw (← same) at so_far))
+
 split_left : (n d u x : ℕ) → n ≡ d + 1024 * u → n * x ≡ d * x + 1024 * (u * x)
 split_left n d u x e = ap (λ k. k * x) e ∙ add-mul d (1024 * u) x ∙ ap (λ k. d * x + k) (mul_assoc 1024 u x)
 
@@ -143,17 +165,21 @@ shifted_word w x y z b c eb ec =
     let high = times_same v (c + 1024 * y) z ec in
     omega (arith, first, second, third, fourth, low, high)
 
+-- each third word of x from a place on
+abbrev IsThirds : List ℕ → ℕ → ℕ → List ℕ → Type 0
+IsThirds x first n part = (t : ℕ) → t < n → slice_index part t ≡ slice_index x (first + 3 * t)
+
 -- each third word of x from the next place on, less 2 ^ 10 times the word before it, modulo 2 ^ 32
 abbrev IsCarried : List ℕ → ℕ → ℕ → List ℕ → Type 0
 IsCarried x first n carried =
     (t : ℕ) → t < n → (slice_index carried t + 1024 * slice_index x (first + 3 * t)) % 2 ^ 32 ≡ slice_index x (first + 3 * t + 1) % 2 ^ 32
 
 -- the words of one part of a row
-pub part_sum : (packed x : List ℕ) (row start count : ℕ) (ws xs ys zs : List ℕ) → length ws ≡ count → count ≤ 1376
+pub part_sum : (packed x : List ℕ) (row start count : ℕ) (ws xs ys zs : List ℕ) → length ws ≡ count
     → ws ≡ slice_range packed (row + start) (row + start + count)
-    → xs ≡ thirds x (3 * start) 1376 → IsCarried x (3 * start) 1376 ys → IsCarried x (3 * start + 1) 1376 zs
+    → IsThirds x (3 * start) count xs → IsCarried x (3 * start) count ys → IsCarried x (3 * start + 1) count zs
     → shifted_sum ws (take count xs) (take count ys) (take count zs) ≡ sum_below count (λ t. products_at packed x row (start + t)) % 2 ^ 32
-part_sum packed x row start count ws xs ys zs long most w is ys-is zs-is =
+part_sum packed x row start count ws xs ys zs long w is ys-is zs-is =
     rw long (sum_congruent count _ _ (λ t h.
     let at = 3 * (start + t) in
     let here : slice_index ws t ≡ slice_index packed (row + (start + t)) =
@@ -163,10 +189,9 @@ part_sum packed x row start count ws xs ys zs long most w is ys-is zs-is =
     let p0 : 3 * start + 3 * t ≡ at = omega arith in
     let p1 : 3 * start + 1 + 3 * t ≡ at + 1 = omega arith in
     let p2 : at + 1 + 1 ≡ at + 2 = omega arith in
-    let e0 : slice_index (take count xs) t ≡ slice_index x at = get_or-take count xs t 0 h ∙ ap (λ l. slice_index l t) is
-    ∙ rw (← p0) (get_or-map-range_with_len (λ t. slice_index x (3 * start + 3 * t)) 0 1376 t t 0 (omega arith) (omega arith)) in
-    let e1 = rw p0 at (ys-is t (omega arith)) in
-    let e2 = rw (p1, p2) at (zs-is t (omega arith)) in
+    let e0 : slice_index (take count xs) t ≡ slice_index x at = get_or-take count xs t 0 h ∙ rw (← p0) (is t h) in
+    let e1 = rw p0 at (ys-is t h) in
+    let e2 = rw (p1, p2) at (zs-is t h) in
     rw (here, e0, get_or-take count ys t 0 h, get_or-take count zs t 0 h)
     (shifted_word (slice_index packed (row + (start + t))) (slice_index x at) (slice_index x (at + 1)) (slice_index x (at + 2)) (slice_index ys t)
     (slice_index zs t) e1 e2)))
@@ -192,6 +217,35 @@ parts_more packed x out new words start count is so_far q h =
 pub piece_fits : (row rows words start count total : ℕ) → row < rows → start + count ≤ words → total ≡ rows * words → row * words + start + count ≤ total
 piece_fits row rows words start count total below inside all =
     let fits : row * words + words ≤ rows * words = row_fits row words rows words below (omega arith) in
+    omega (arith, fits)
+
+-- the words of one part of a row, which stand among all words
+pub row_part : (packed x : List ℕ) (q rows words start count : ℕ) (xs ys zs : List ℕ) → q < rows → start + count ≤ words
+    → length packed ≡ rows * words
+    → IsThirds x (3 * start) count xs → IsCarried x (3 * start) count ys → IsCarried x (3 * start + 1) count zs
+    → shifted_sum (slice_range packed (q * words + start) (q * words + start + count)) (take count xs) (take count ys) (take count zs)
+    ≡ sum_below count (λ t. products_at packed x (q * words) (start + t)) % 2 ^ 32
+row_part packed x q rows words start count xs ys zs below inside all is ys-is zs-is =
+    let at = q * words + start in
+    let fits : at + count ≤ length packed = piece_fits q rows words start count (length packed) below inside all in
+    let cut : at + count - at ≡ count = omega arith in
+    let long : length (slice_range packed at (at + count)) ≡ count = rw cut (length-chunk at count packed fits) in
+    part_sum packed x (q * words) start count _ xs ys zs long refl is ys-is zs-is
+
+-- n rows from one on lie within all rows
+pub rows_within : (n row rows words total : ℕ) → row + n ≤ rows → total ≡ rows * words → (row + n) * words ≤ total
+rows_within n row rows words total below all =
+    let left = rows - (row + n) in
+    let e : rows ≡ row + n + left = omega arith in
+    let split = add-mul (row + n) left words in
+    let more = ap (λ k. k * words) e in
+    omega (arith, split, more, all)
+
+-- part of one of n rows lies within them
+pub rows_fit : (n at row words start count total : ℕ) → at < row + n → start + count ≤ words → (row + n) * words ≤ total
+    → at * words + start + count ≤ total
+rows_fit n at row words start count total below inside all =
+    let fits = piece_fits at (row + n) words start count _ below inside refl in
     omega (arith, fits)
 
 -- a sum by threes

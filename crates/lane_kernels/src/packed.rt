@@ -5,17 +5,29 @@
 //! `d x + e y + f z` modulo 2^32: what stands above a digit in one term is taken off by the next.
 //! So the vector alone is prepared, once for all rows.
 
-ghost use Rattle.std.specs.Prelude.{◌≡◌, ℕ, ◌∷◌, [], ◌<◌, ◌≤◌, ◌+◌, ◌*◌, ◌%◌, ◌^◌, length};
+ghost use Rattle.std.specs.Prelude.{◌≡◌, ℕ, ◌<◌, ◌≤◌, ◌+◌, ◌*◌, ◌%◌, ◌^◌, length};
 ghost use Rattle.std.specs.Prelude.{slice_index, slice_range, All};
+ghost use Rattle.std.specs.Simd.Lanes.{fold_l};
+ghost use Rattle.matrix_u32.specs.Sum.{list_of};
 ghost use Rattle.matrix_u32.specs.Matrix.{times_vector};
 ghost use Rattle.lane_kernels.specs.Packed.{packed_cols, unpacked};
-ghost use Rattle.lane_kernels.specs.Carried.{shifted_sum, thirds, plus_part};
+ghost use Rattle.lane_kernels.specs.Carried.{lane_products, shifted_sum, plus_part};
 
 use std::simd::prelude::*;
 
 // As many words of a row as are taken at a time: the prepared vector of so many words stands on the
-// stack. Rows of 4128 columns or fewer are done in one part.
-pub(crate) const PART: usize = 1376;
+// stack. Rows of 32,832 columns or fewer are done in one part, since memory is read ahead of need
+// only as far as a row is taken.
+pub(crate) const PART: usize = 10944;
+
+// Part of a vector, as a product without masks takes it: for each word of a row what the word, the
+// word without its first digit and the word without its first two are multiplied with.
+#[derive(Clone, Copy)]
+pub(crate) struct Prepared<'a> {
+    pub(crate) a: &'a [u32],
+    pub(crate) b: &'a [u32],
+    pub(crate) c: &'a [u32],
+}
 
 /// Writes the product of a packed matrix of digits and `x` into `out`, whatever it held.
 ///
@@ -42,32 +54,26 @@ pub fn packed_mul_vec(packed: &[u32], cols: usize, x: &[u32], out: &mut [u32])
 fn add_part(packed: &[u32], words: usize, start: usize, count: usize, x: &[u32], out: &mut [u32])
     requires rows_fit { length packed.now ≡ length out.old * words }
     requires inside { start + count ≤ words }
-    requires most { count ≤ 1376 }
+    requires most { count ≤ 10944 }
     requires room { 3 * start + 1 < 2 ^ 63 }
     ensures { out.new ≡ plus_part out.old packed.now x.now words start count }
 {
-    let fours = out.len() / 4;
-    let a_part = part(x, 3 * start);
-    let b_part = carried(x, 3 * start);
-    let c_part = carried(x, 3 * start + 1);
-    let a = &a_part[..count];
-    let b = &b_part[..count];
-    let c = &c_part[..count];
-    for t in 0..fours {
-        let row = t * 4;
-        let four = four_sums(
-            piece(packed, row, words, start, count),
-            piece(packed, row + 1, words, start, count),
-            piece(packed, row + 2, words, start, count),
-            piece(packed, row + 3, words, start, count),
-            a,
-            b,
-            c,
-        );
-        let sum = u32x4::from_slice(&out[row..]) + u32x4::from_array(four);
+    let eights = out.len() / 8;
+    let a_part = part(x, 3 * start, count);
+    let b_part = carried(x, 3 * start, count);
+    let c_part = carried(x, 3 * start + 1, count);
+    let prepared = Prepared {
+        a: &a_part[..count],
+        b: &b_part[..count],
+        c: &c_part[..count],
+    };
+    for t in 0..eights {
+        let row = t * 8;
+        let eight = eight_sums(packed, row, words, start, &prepared);
+        let sum = u32x8::from_slice(&out[row..]) + u32x8::from_array(eight);
         sum.copy_to_slice(&mut out[row..]);
     }
-    add_part_singly(packed, words, start, fours * 4, a, b, c, out);
+    add_part_singly(packed, words, start, eights * 8, &prepared, out);
 }
 
 // The rows from one on, one by one, with the prepared vector.
@@ -76,24 +82,22 @@ pub(crate) fn add_part_singly(
     words: usize,
     start: usize,
     from: usize,
-    a: &[u32],
-    b: &[u32],
-    c: &[u32],
+    x: &Prepared<'_>,
     out: &mut [u32],
 )
     requires rows_fit { length packed.now ≡ length out.old * words }
-    requires inside { start + length a.now ≤ words }
-    requires b { length b.now ≡ length a.now }
-    requires c { length c.now ≡ length a.now }
+    requires inside { start + length x.now.a.now ≤ words }
+    requires b { length x.now.b.now ≡ length x.now.a.now }
+    requires c { length x.now.c.now ≡ length x.now.a.now }
     ensures count { length out.new ≡ length out.old }
     ensures kept { (q : ℕ) → q < from → slice_index out.new q ≡ slice_index out.old q }
     ensures done { (q : ℕ) → from ≤ q → q < length out.old → slice_index out.new q
         ≡ (slice_index out.old q + shifted_sum
-        (slice_range packed.now (q * words + start) (q * words + start + length a.now))
-        a.now b.now c.now) % 2 ^ 32 }
+        (slice_range packed.now (q * words + start) (q * words + start + length x.now.a.now))
+        x.now.a.now x.now.b.now x.now.c.now) % 2 ^ 32 }
 {
     for r in from..out.len() {
-        let sum = row_sum(piece(packed, r, words, start, a.len()), a, b, c);
+        let sum = row_sum(piece(packed, r, words, start, x.a.len()), x);
         out[r] = out[r].wrapping_add(sum);
     }
 }
@@ -104,28 +108,32 @@ pub(crate) fn row_words(cols: usize) -> usize
     cols.div_ceil(3)
 }
 
-// Each third word of x from a place on, and 0 past its end.
-pub(crate) fn part(x: &[u32], first: usize) -> [u32; PART]
-    requires { first < 2 ^ 63 }
-    ensures { result ≡ thirds x.now first 1376 }
+// Each third word of x from a place on, `count` of them, and 0 past its end.
+pub(crate) fn part(x: &[u32], first: usize, count: usize) -> [u32; PART]
+    requires first { first < 2 ^ 63 }
+    requires most { count ≤ 10944 }
+    ensures long { length result ≡ 10944 }
+    ensures words { (t : ℕ) → t < count →
+        slice_index result t ≡ slice_index x.now (first + 3 * t) }
 {
     let mut out = [0u32; PART];
-    for t in 0..PART {
+    for t in 0..count {
         out[t] = word_or_zero(x, first + 3 * t);
     }
     out
 }
 
-// Each third word of x from the next place on, less 2^10 times the word before it.
-pub(crate) fn carried(x: &[u32], first: usize) -> [u32; PART]
-    requires { first < 2 ^ 63 }
-    ensures long { length result ≡ 1376 }
-    ensures words { (t : ℕ) → t < 1376 →
+// Each third word of x from the next place on, `count` of them, less 2^10 times the word before it.
+pub(crate) fn carried(x: &[u32], first: usize, count: usize) -> [u32; PART]
+    requires first { first < 2 ^ 63 }
+    requires most { count ≤ 10944 }
+    ensures long { length result ≡ 10944 }
+    ensures words { (t : ℕ) → t < count →
         (slice_index result t + 1024 * slice_index x.now (first + 3 * t)) % 2 ^ 32
         ≡ slice_index x.now (first + 3 * t + 1) % 2 ^ 32 }
 {
     let mut out = [0u32; PART];
-    for t in 0..PART {
+    for t in 0..count {
         let j = first + 3 * t;
         let before = word_or_zero(x, j);
         let here = word_or_zero(x, j + 1);
@@ -151,85 +159,99 @@ pub(crate) fn piece(packed: &[u32], row: usize, words: usize, start: usize, coun
     &packed[at..at + count]
 }
 
-// Four rows at once, so that the prepared vector is read once for them.
-fn four_sums(
-    p: &[u32],
-    q: &[u32],
-    r: &[u32],
-    s: &[u32],
-    a: &[u32],
-    b: &[u32],
-    c: &[u32],
-) -> [u32; 4]
-    requires p { length p.now ≡ length a.now }
-    requires q { length q.now ≡ length a.now }
-    requires r { length r.now ≡ length a.now }
-    requires s { length s.now ≡ length a.now }
-    requires b { length b.now ≡ length a.now }
-    requires c { length c.now ≡ length a.now }
-    ensures { result ≡ shifted_sum p.now a.now b.now c.now ∷ shifted_sum q.now a.now b.now c.now
-        ∷ shifted_sum r.now a.now b.now c.now ∷ shifted_sum s.now a.now b.now c.now ∷ [] }
+// Eight rows from one on at once: memory is read in eight places then, which is quicker than in
+// fewer, and the prepared vector once for all of them.
+fn eight_sums(packed: &[u32], row: usize, words: usize, start: usize, x: &Prepared<'_>) -> [u32; 8]
+    requires room { row + 8 < 2 ^ 64 }
+    requires rows { (row + 8) * words ≤ length packed.now }
+    requires inside { start + length x.now.a.now ≤ words }
+    requires b { length x.now.b.now ≡ length x.now.a.now }
+    requires c { length x.now.c.now ≡ length x.now.a.now }
+    ensures { result ≡ list_of 8 (λ j. shifted_sum
+        (slice_range packed.now ((row + j) * words + start)
+        ((row + j) * words + start + length x.now.a.now))
+        x.now.a.now x.now.b.now x.now.c.now) }
 {
-    let (ps, p_rest) = p.as_chunks::<8>();
-    let (qs, q_rest) = q.as_chunks::<8>();
-    let (rs, r_rest) = r.as_chunks::<8>();
-    let (ss, s_rest) = s.as_chunks::<8>();
-    let (a_all, a_rest) = a.as_chunks::<8>();
-    let (b_all, b_rest) = b.as_chunks::<8>();
-    let (c_all, c_rest) = c.as_chunks::<8>();
-    let mut first = u32x8::splat(0);
-    let mut second = u32x8::splat(0);
-    let mut third = u32x8::splat(0);
-    let mut fourth = u32x8::splat(0);
+    let (p, p_rest) = piece(packed, row, words, start, x.a.len()).as_chunks::<8>();
+    let (q, q_rest) = piece(packed, row + 1, words, start, x.a.len()).as_chunks::<8>();
+    let (r, r_rest) = piece(packed, row + 2, words, start, x.a.len()).as_chunks::<8>();
+    let (s, s_rest) = piece(packed, row + 3, words, start, x.a.len()).as_chunks::<8>();
+    let (t, t_rest) = piece(packed, row + 4, words, start, x.a.len()).as_chunks::<8>();
+    let (u, u_rest) = piece(packed, row + 5, words, start, x.a.len()).as_chunks::<8>();
+    let (v, v_rest) = piece(packed, row + 6, words, start, x.a.len()).as_chunks::<8>();
+    let (w, w_rest) = piece(packed, row + 7, words, start, x.a.len()).as_chunks::<8>();
+    let (a_all, a_rest) = x.a.as_chunks::<8>();
+    let (b_all, b_rest) = x.b.as_chunks::<8>();
+    let (c_all, c_rest) = x.c.as_chunks::<8>();
+    let zero = u32x8::splat(0);
+    let (mut ps, mut qs, mut rs, mut ss) = (zero, zero, zero, zero);
+    let (mut ts, mut us, mut vs, mut ws) = (zero, zero, zero, zero);
     for i in 0..a_all.len() {
-        let x = u32x8::from_array(a_all[i]);
-        let y = u32x8::from_array(b_all[i]);
-        let z = u32x8::from_array(c_all[i]);
-        let w = u32x8::from_array(ps[i]);
-        first += w * x + (w >> 10) * y + (w >> 20) * z;
-        let w = u32x8::from_array(qs[i]);
-        second += w * x + (w >> 10) * y + (w >> 20) * z;
-        let w = u32x8::from_array(rs[i]);
-        third += w * x + (w >> 10) * y + (w >> 20) * z;
-        let w = u32x8::from_array(ss[i]);
-        fourth += w * x + (w >> 10) * y + (w >> 20) * z;
+        let a = u32x8::from_array(a_all[i]);
+        let b = u32x8::from_array(b_all[i]);
+        let c = u32x8::from_array(c_all[i]);
+        ps += products(p[i], a, b, c);
+        qs += products(q[i], a, b, c);
+        rs += products(r[i], a, b, c);
+        ss += products(s[i], a, b, c);
+        ts += products(t[i], a, b, c);
+        us += products(u[i], a, b, c);
+        vs += products(v[i], a, b, c);
+        ws += products(w[i], a, b, c);
     }
-    let p_sum = rest_sum(p_rest, a_rest, b_rest, c_rest);
-    let q_sum = rest_sum(q_rest, a_rest, b_rest, c_rest);
-    let r_sum = rest_sum(r_rest, a_rest, b_rest, c_rest);
-    let s_sum = rest_sum(s_rest, a_rest, b_rest, c_rest);
     [
-        first.reduce_sum().wrapping_add(p_sum),
-        second.reduce_sum().wrapping_add(q_sum),
-        third.reduce_sum().wrapping_add(r_sum),
-        fourth.reduce_sum().wrapping_add(s_sum),
+        total(ps, p_rest, a_rest, b_rest, c_rest),
+        total(qs, q_rest, a_rest, b_rest, c_rest),
+        total(rs, r_rest, a_rest, b_rest, c_rest),
+        total(ss, s_rest, a_rest, b_rest, c_rest),
+        total(ts, t_rest, a_rest, b_rest, c_rest),
+        total(us, u_rest, a_rest, b_rest, c_rest),
+        total(vs, v_rest, a_rest, b_rest, c_rest),
+        total(ws, w_rest, a_rest, b_rest, c_rest),
     ]
 }
 
-fn row_sum(words: &[u32], a: &[u32], b: &[u32], c: &[u32]) -> u32
+// Eight words of a row, each times its words of the prepared vector.
+pub(crate) fn products(words: [u32; 8], a: u32x8, b: u32x8, c: u32x8) -> u32x8
+    ensures { result ≡ lane_products words a b c }
+{
+    let w = u32x8::from_array(words);
+    w * a + (w >> 10) * b + (w >> 20) * c
+}
+
+// A sum of eight lanes, with the products of the words that are left.
+pub(crate) fn total(sum: u32x8, words: &[u32], a: &[u32], b: &[u32], c: &[u32]) -> u32
     requires first { length a.now ≡ length words.now }
     requires second { length b.now ≡ length words.now }
     requires third { length c.now ≡ length words.now }
-    ensures { result ≡ shifted_sum words.now a.now b.now c.now }
+    ensures { result ≡ (fold_l (λ a x. (a + x) % 2 ^ 32) 0 sum
+        + shifted_sum words.now a.now b.now c.now) % 2 ^ 32 }
 {
-    let (ws, w_rest) = words.as_chunks::<8>();
-    let (a_all, a_rest) = a.as_chunks::<8>();
-    let (b_all, b_rest) = b.as_chunks::<8>();
-    let (c_all, c_rest) = c.as_chunks::<8>();
+    sum.reduce_sum().wrapping_add(rest_sum(words, a, b, c))
+}
+
+fn row_sum(words: &[u32], x: &Prepared<'_>) -> u32
+    requires first { length x.now.a.now ≡ length words.now }
+    requires second { length x.now.b.now ≡ length words.now }
+    requires third { length x.now.c.now ≡ length words.now }
+    ensures { result ≡ shifted_sum words.now x.now.a.now x.now.b.now x.now.c.now }
+{
+    let (w, w_rest) = words.as_chunks::<8>();
+    let (a_all, a_rest) = x.a.as_chunks::<8>();
+    let (b_all, b_rest) = x.b.as_chunks::<8>();
+    let (c_all, c_rest) = x.c.as_chunks::<8>();
     let mut sum = u32x8::splat(0);
     for i in 0..a_all.len() {
-        let x = u32x8::from_array(a_all[i]);
-        let y = u32x8::from_array(b_all[i]);
-        let z = u32x8::from_array(c_all[i]);
-        let w = u32x8::from_array(ws[i]);
-        sum += w * x + (w >> 10) * y + (w >> 20) * z;
+        let a = u32x8::from_array(a_all[i]);
+        let b = u32x8::from_array(b_all[i]);
+        let c = u32x8::from_array(c_all[i]);
+        sum += products(w[i], a, b, c);
     }
-    sum.reduce_sum()
-        .wrapping_add(rest_sum(w_rest, a_rest, b_rest, c_rest))
+    total(sum, w_rest, a_rest, b_rest, c_rest)
 }
 
 // Word by word, for what is left after the last whole vector.
-pub(crate) fn rest_sum(words: &[u32], a: &[u32], b: &[u32], c: &[u32]) -> u32
+fn rest_sum(words: &[u32], a: &[u32], b: &[u32], c: &[u32]) -> u32
     requires first { length a.now ≡ length words.now }
     requires second { length b.now ≡ length words.now }
     requires third { length c.now ≡ length words.now }

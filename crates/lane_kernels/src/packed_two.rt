@@ -1,11 +1,14 @@
 //! Products of packed digits with two vectors, for which the digits are read once.
 
-ghost use Rattle.std.specs.Prelude.{◌≡◌, ◌<◌, ◌≤◌, ◌+◌, ◌*◌, ◌^◌, ◌∷◌, [], length, All};
+ghost use Rattle.std.specs.Prelude.{◌≡◌, ◌<◌, ◌≤◌, ◌+◌, ◌*◌, ◌^◌, length, slice_range, All};
+ghost use Rattle.matrix_u32.specs.Sum.{list_of};
 ghost use Rattle.matrix_u32.specs.Matrix.{times_vector};
 ghost use Rattle.lane_kernels.specs.Packed.{packed_cols, unpacked};
 ghost use Rattle.lane_kernels.specs.Carried.{shifted_sum, plus_part};
 
-use crate::packed::{PART, add_part_singly, carried, part, piece, rest_sum, row_words};
+use crate::packed::{
+    PART, Prepared, add_part_singly, carried, part, piece, products, row_words, total,
+};
 use std::simd::prelude::*;
 
 /// Writes the products of a packed matrix of digits with `x` and with `y` into `x_out` and `y_out`,
@@ -52,99 +55,107 @@ fn add_part_two(
     requires rows_fit { length packed.now ≡ length x_out.old * words }
     requires same_rows { length y_out.old ≡ length x_out.old }
     requires inside { start + count ≤ words }
-    requires most { count ≤ 1376 }
+    requires most { count ≤ 10944 }
     requires room { 3 * start + 1 < 2 ^ 63 }
     ensures x { x_out.new ≡ plus_part x_out.old packed.now x.now words start count }
     ensures y { y_out.new ≡ plus_part y_out.old packed.now y.now words start count }
 {
-    let a_part = part(x, 3 * start);
-    let b_part = carried(x, 3 * start);
-    let c_part = carried(x, 3 * start + 1);
-    let d_part = part(y, 3 * start);
-    let e_part = carried(y, 3 * start);
-    let f_part = carried(y, 3 * start + 1);
-    let a = &a_part[..count];
-    let b = &b_part[..count];
-    let c = &c_part[..count];
-    let d = &d_part[..count];
-    let e = &e_part[..count];
-    let f = &f_part[..count];
-    let twos = x_out.len() / 2;
-    for t in 0..twos {
-        let row = t * 2;
-        let p = piece(packed, row, words, start, count);
-        let q = piece(packed, row + 1, words, start, count);
-        let (x_two, y_two) = two_by_two(p, q, a, b, c, d, e, f);
-        let x_sum = u32x2::from_slice(&x_out[row..]) + u32x2::from_array(x_two);
-        let y_sum = u32x2::from_slice(&y_out[row..]) + u32x2::from_array(y_two);
+    let a_part = part(x, 3 * start, count);
+    let b_part = carried(x, 3 * start, count);
+    let c_part = carried(x, 3 * start + 1, count);
+    let d_part = part(y, 3 * start, count);
+    let e_part = carried(y, 3 * start, count);
+    let f_part = carried(y, 3 * start + 1, count);
+    let first = Prepared {
+        a: &a_part[..count],
+        b: &b_part[..count],
+        c: &c_part[..count],
+    };
+    let second = Prepared {
+        a: &d_part[..count],
+        b: &e_part[..count],
+        c: &f_part[..count],
+    };
+    let fours = x_out.len() / 4;
+    for t in 0..fours {
+        let row = t * 4;
+        let (x_four, y_four) = four_by_two(packed, row, words, start, &first, &second);
+        let x_sum = u32x4::from_slice(&x_out[row..]) + u32x4::from_array(x_four);
+        let y_sum = u32x4::from_slice(&y_out[row..]) + u32x4::from_array(y_four);
         x_sum.copy_to_slice(&mut x_out[row..]);
         y_sum.copy_to_slice(&mut y_out[row..]);
     }
-    add_part_singly(packed, words, start, twos * 2, a, b, c, x_out);
-    add_part_singly(packed, words, start, twos * 2, d, e, f, y_out);
+    add_part_singly(packed, words, start, fours * 4, &first, x_out);
+    add_part_singly(packed, words, start, fours * 4, &second, y_out);
 }
 
-// Two rows with two prepared vectors, so that these are read once for both rows, and the rows once
-// for both vectors.
-fn two_by_two(
-    p: &[u32],
-    q: &[u32],
-    a: &[u32],
-    b: &[u32],
-    c: &[u32],
-    d: &[u32],
-    e: &[u32],
-    f: &[u32],
-) -> ([u32; 2], [u32; 2])
-    requires p { length p.now ≡ length a.now }
-    requires q { length q.now ≡ length a.now }
-    requires b { length b.now ≡ length a.now }
-    requires c { length c.now ≡ length a.now }
-    requires d { length d.now ≡ length a.now }
-    requires e { length e.now ≡ length a.now }
-    requires f { length f.now ≡ length a.now }
-    ensures x { result.0 ≡ shifted_sum p.now a.now b.now c.now
-        ∷ shifted_sum q.now a.now b.now c.now ∷ [] }
-    ensures y { result.1 ≡ shifted_sum p.now d.now e.now f.now
-        ∷ shifted_sum q.now d.now e.now f.now ∷ [] }
+// Four rows from one on with two prepared vectors, so that these are read once for all four rows,
+// and the rows once for both vectors.
+fn four_by_two(
+    packed: &[u32],
+    row: usize,
+    words: usize,
+    start: usize,
+    x: &Prepared<'_>,
+    y: &Prepared<'_>,
+) -> ([u32; 4], [u32; 4])
+    requires room { row + 4 < 2 ^ 64 }
+    requires rows { (row + 4) * words ≤ length packed.now }
+    requires inside { start + length x.now.a.now ≤ words }
+    requires x_b { length x.now.b.now ≡ length x.now.a.now }
+    requires x_c { length x.now.c.now ≡ length x.now.a.now }
+    requires y_a { length y.now.a.now ≡ length x.now.a.now }
+    requires y_b { length y.now.b.now ≡ length x.now.a.now }
+    requires y_c { length y.now.c.now ≡ length x.now.a.now }
+    ensures x { result.0 ≡ list_of 4 (λ j. shifted_sum
+        (slice_range packed.now ((row + j) * words + start)
+        ((row + j) * words + start + length x.now.a.now))
+        x.now.a.now x.now.b.now x.now.c.now) }
+    ensures y { result.1 ≡ list_of 4 (λ j. shifted_sum
+        (slice_range packed.now ((row + j) * words + start)
+        ((row + j) * words + start + length x.now.a.now))
+        y.now.a.now y.now.b.now y.now.c.now) }
 {
-    let (ps, p_rest) = p.as_chunks::<8>();
-    let (qs, q_rest) = q.as_chunks::<8>();
-    let (a_all, a_rest) = a.as_chunks::<8>();
-    let (b_all, b_rest) = b.as_chunks::<8>();
-    let (c_all, c_rest) = c.as_chunks::<8>();
-    let (d_all, d_rest) = d.as_chunks::<8>();
-    let (e_all, e_rest) = e.as_chunks::<8>();
-    let (f_all, f_rest) = f.as_chunks::<8>();
-    let mut px = u32x8::splat(0);
-    let mut qx = u32x8::splat(0);
-    let mut py = u32x8::splat(0);
-    let mut qy = u32x8::splat(0);
+    let (p, p_rest) = piece(packed, row, words, start, x.a.len()).as_chunks::<8>();
+    let (q, q_rest) = piece(packed, row + 1, words, start, x.a.len()).as_chunks::<8>();
+    let (r, r_rest) = piece(packed, row + 2, words, start, x.a.len()).as_chunks::<8>();
+    let (s, s_rest) = piece(packed, row + 3, words, start, x.a.len()).as_chunks::<8>();
+    let (a_all, a_rest) = x.a.as_chunks::<8>();
+    let (b_all, b_rest) = x.b.as_chunks::<8>();
+    let (c_all, c_rest) = x.c.as_chunks::<8>();
+    let (d_all, d_rest) = y.a.as_chunks::<8>();
+    let (e_all, e_rest) = y.b.as_chunks::<8>();
+    let (f_all, f_rest) = y.c.as_chunks::<8>();
+    let zero = u32x8::splat(0);
+    let (mut px, mut qx, mut rx, mut sx) = (zero, zero, zero, zero);
+    let (mut py, mut qy, mut ry, mut sy) = (zero, zero, zero, zero);
     for i in 0..a_all.len() {
-        let x = u32x8::from_array(a_all[i]);
-        let y = u32x8::from_array(b_all[i]);
-        let z = u32x8::from_array(c_all[i]);
-        let u = u32x8::from_array(d_all[i]);
-        let v = u32x8::from_array(e_all[i]);
-        let t = u32x8::from_array(f_all[i]);
-        let w = u32x8::from_array(ps[i]);
-        px += w * x + (w >> 10) * y + (w >> 20) * z;
-        py += w * u + (w >> 10) * v + (w >> 20) * t;
-        let w = u32x8::from_array(qs[i]);
-        qx += w * x + (w >> 10) * y + (w >> 20) * z;
-        qy += w * u + (w >> 10) * v + (w >> 20) * t;
+        let a = u32x8::from_array(a_all[i]);
+        let b = u32x8::from_array(b_all[i]);
+        let c = u32x8::from_array(c_all[i]);
+        let d = u32x8::from_array(d_all[i]);
+        let e = u32x8::from_array(e_all[i]);
+        let f = u32x8::from_array(f_all[i]);
+        px += products(p[i], a, b, c);
+        py += products(p[i], d, e, f);
+        qx += products(q[i], a, b, c);
+        qy += products(q[i], d, e, f);
+        rx += products(r[i], a, b, c);
+        ry += products(r[i], d, e, f);
+        sx += products(s[i], a, b, c);
+        sy += products(s[i], d, e, f);
     }
-    let p_rest_x = rest_sum(p_rest, a_rest, b_rest, c_rest);
-    let q_rest_x = rest_sum(q_rest, a_rest, b_rest, c_rest);
-    let p_rest_y = rest_sum(p_rest, d_rest, e_rest, f_rest);
-    let q_rest_y = rest_sum(q_rest, d_rest, e_rest, f_rest);
-    let x_two = [
-        px.reduce_sum().wrapping_add(p_rest_x),
-        qx.reduce_sum().wrapping_add(q_rest_x),
+    let x_four = [
+        total(px, p_rest, a_rest, b_rest, c_rest),
+        total(qx, q_rest, a_rest, b_rest, c_rest),
+        total(rx, r_rest, a_rest, b_rest, c_rest),
+        total(sx, s_rest, a_rest, b_rest, c_rest),
     ];
-    let y_two = [
-        py.reduce_sum().wrapping_add(p_rest_y),
-        qy.reduce_sum().wrapping_add(q_rest_y),
+    let y_four = [
+        total(py, p_rest, d_rest, e_rest, f_rest),
+        total(qy, q_rest, d_rest, e_rest, f_rest),
+        total(ry, r_rest, d_rest, e_rest, f_rest),
+        total(sy, s_rest, d_rest, e_rest, f_rest),
     ];
-    (x_two, y_two)
+    (x_four, y_four)
 }

@@ -265,8 +265,8 @@ fn product_of<S: DigitStore>(
 
 #[test]
 fn packed_and_flat_give_the_same_products(rt: HostRuntime) -> Result<(), Fail> {
-    for cols in [1, 2, 3, 4, 5, 7, 4096] {
-        for rows in [1, 2, 5] {
+    for cols in [1, 2, 3, 4, 5, 7, 24, 25, 4096] {
+        for rows in [1, 2, 5, 7, 8, 9, 19] {
             let flat = product_of::<Flat>(&rt, rows, cols)?;
             let packed = product_of::<Packed3>(&rt, rows, cols)?;
             assert_eq!(rt;

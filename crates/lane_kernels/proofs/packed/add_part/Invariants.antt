@@ -5,7 +5,7 @@ use Rattle.lane_kernels.proofs.packed.add_part.Given as goal
 
 abbrev pub invariant-loop-t : goal.invariant-loop-t
 invariant-loop-t l = record {
-  done : (q : ℕ) → q < l.t * 4 → slice_index l.out q
+  done : (q : ℕ) → q < l.t * 8 → slice_index l.out q
       ≡ (slice_index l.fn.out q + sum_below l.count (λ t. products_at l.packed l.x (q * l.words) (l.start + t))) % 2 ^ 32;
-  rest : (q : ℕ) → l.t * 4 ≤ q → slice_index l.out q ≡ slice_index l.fn.out q;
+  rest : (q : ℕ) → l.t * 8 ≤ q → slice_index l.out q ≡ slice_index l.fn.out q;
 }
