@@ -33,4 +33,4 @@ pub use hints::{setup, setup_watched};
 pub use queries::{QueryBuffers, query};
 pub use records::recover;
 pub use simple_scheme::RecoverError;
-pub use steps::{AnswerSteps, STEP_DIGITS, put_rows, rows_in_step};
+pub use steps::{AnswerSteps, STEP_DIGITS, put_rows, put_two_rows, rows_in_step};

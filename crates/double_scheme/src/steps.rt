@@ -85,8 +85,8 @@ pub fn put_rows<K: Kernel, S: DigitStore>(
     digits.mul_rows(kernel, first, x, &mut out[first..first + count]);
 }
 
-// Writes the words of some more rows for two parts, for which the rows are read once.
-fn put_two_rows<K: Kernel, S: DigitStore>(
+/// The same for two vectors, for which the rows are read once.
+pub fn put_two_rows<K: Kernel, S: DigitStore>(
     kernel: K,
     digits: &S,
     x: &[u32],

@@ -1,5 +1,5 @@
 -- The answer that is made in steps.
-use Rattle.std.proofs.Common.{◌≡◌, ℕ, ◌*◌, arith, ap, sym, subst, ◌∙◌, List, length, true, false, Bool}
+use Rattle.std.proofs.Common.{◌≡◌, Option, Some, None, ℕ, ◌*◌, arith, ap, sym, subst, ◌∙◌, List, length, true, false, Bool}
 use Rattle.std.proofs.lemmas.List.{take_all}
 use Rattle.std.specs.declared.vec.Vec.{Vec}
 use Rattle.std.specs.declared.alloc.Global.{Global}
@@ -17,7 +17,9 @@ use Rattle.pir_schemes.specs.declared.scheme.Scheme.TheVariants as scheme
 use Rattle.pir_schemes.specs.Plans.{digits_at, second_public}
 use Rattle.pir_schemes.specs.Retrievals.{server_hint, answer_words}
 use Rattle.version_store.specs.Editions.{Records, version_shape}
-use Rattle.version_store.specs.Preparing.{IsMakingFor}
+use Rattle.version_store.specs.Preparing.{IsMakingFor, IsPrepared}
+use Rattle.version_store.specs.Together.{IsSteppedIf}
+use Rattle.version_store.specs.declared.preparing.Preparation.{Preparation}
 use Rattle.version_store.specs.declared.preparing.Making.TheVariants.{Simple, Double}
 use Rattle.version_store.proofs.DoubleLemmas.{server_rows}
 
@@ -63,3 +65,10 @@ double_begun e l n query steps shape dimension long begun stage =
           (sym shape) made,
       ((λ is. let no : false ≡ true = is in cc), (λ whole. absurd (subst (IsWholeAt (version_shape e)) stage whole))),
     )
+
+-- an answer of which one more step was made, if there is one, is still that of a query on the
+-- version
+pub prepared_on : (e : Records) (old new : Option Preparation) → IsPrepared e old → IsSteppedIf e old new → IsPrepared e new
+prepared_on e None new so_far h = subst (IsPrepared e) (sym h) tt
+prepared_on e (Some old) None so_far h = absurd h
+prepared_on e (Some old) (Some new) so_far h = h.so_far

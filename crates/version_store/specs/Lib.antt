@@ -12,3 +12,4 @@ pub mod Names
 pub mod KeptRecords
 pub mod HeldRecords
 pub mod Preparing
+pub mod Together

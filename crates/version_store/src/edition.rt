@@ -18,12 +18,11 @@ ghost use Rattle.version_store.specs.Buffers.{scheme_answered, IsAnswerBuffers, 
 
 use crate::answer_buffers::AnswerBuffers;
 use crate::drafts::{Changes, apply_changes};
-use crate::first_layer::{Digits, FirstLayer};
+use crate::first_layer::{self, Digits, FirstLayer};
 use crate::held_records::HeldRecords;
-use crate::preparing::Preparation;
+use crate::preparing::{Preparation, Preparations};
 use crate::rows::{FollowBuffers, follow_rows};
 use digit_pack::{DigitStore, Layout};
-use double_scheme::STEP_DIGITS;
 use matrix_u32::{Kernel, Matrix};
 use pir_schemes::{Plan, Scheme};
 use seed_expand::expand;
@@ -40,20 +39,20 @@ pub struct Edition<K: Kernel> {
     a2: Matrix,
     server: Digits,
     client: Matrix,
-    // The answer that was begun, of which contracts see nothing.
-    prepared: Option<Preparation>,
+    // The answers that were begun, of which contracts see nothing.
+    prepared: Preparations,
 }
 
 impl<K: Kernel> Model for Edition<K> {
     ghost use Rattle.version_store.specs.Editions.{Records, IsMadeTwice};
-    ghost use Rattle.version_store.specs.Preparing.{IsPrepared};
+    ghost use Rattle.version_store.specs.Together.{ArePrepared};
 
     ghost Value = { Records };
 
     ghost view = { λ e. e.layer };
 
     ghost invariant = { λ e. IsMadeTwice e.layer e.a2 e.server e.client
-        × IsPrepared e.layer e.prepared };
+        × ArePrepared e.layer e.prepared };
 }
 
 impl<K: Kernel> Edition<K> {
@@ -100,7 +99,7 @@ impl<K: Kernel> Edition<K> {
             a2,
             server,
             client,
-            prepared: None,
+            prepared: Preparations::none(),
         })
     }
 
@@ -214,16 +213,16 @@ impl<K: Kernel> Edition<K> {
         let digits = layout.rows().saturating_mul(layout.cols());
         let server = self.server.rows().saturating_mul(self.server.cols());
         match scheme {
-            Scheme::Simple => digits > STEP_DIGITS,
+            Scheme::Simple => digits > first_layer::STEP_DIGITS,
             Scheme::Double => {
                 let parts = server.saturating_mul(layout.digits_per_record());
-                digits.saturating_add(parts) > STEP_DIGITS
+                digits.saturating_add(parts) > double_scheme::STEP_DIGITS
             }
         }
     }
 
-    /// Begins the answer to a query, in place of another one that was begun. Only refused memory
-    /// gives an `Err`, and then none is begun.
+    /// Begins the answer to a query, in place of all that were begun. Only refused memory gives an
+    /// `Err`, and then none is begun.
     pub fn begin_answer(
         &mut self,
         alloc: Global,
@@ -233,48 +232,51 @@ impl<K: Kernel> Edition<K> {
         requires { length query.items ≡ query_count scheme (version_shape self.old) }
         ensures { self.new ≡ self.old }
     {
-        self.prepared = None;
+        self.prepared.clear();
+        self.add_answer(alloc, scheme, query)
+    }
+
+    /// Begins the answer to a query beside those that were begun, unless there are four. Only
+    /// refused memory gives an `Err`, and then it is not begun.
+    pub fn add_answer(
+        &mut self,
+        alloc: Global,
+        scheme: Scheme,
+        query: Vec<u32>,
+    ) -> Result<(), AllocError>
+        requires { length query.items ≡ query_count scheme (version_shape self.old) }
+        ensures { self.new ≡ self.old }
+    {
         let layout = self.layer.layout();
         let dimension = usize::from(self.layer.plan().dimension);
-        let prepared = Preparation::new(alloc, scheme, layout, dimension, query)?;
-        self.prepared = Some(prepared);
+        let one = Preparation::new(alloc, scheme, layout, dimension, query)?;
+        self.prepared.add(one);
         Ok(())
     }
 
-    /// Makes one more step of the answer that was begun, and answers whether none is left, also if
-    /// no answer was begun.
-    pub fn step_answer(&mut self) -> bool
+    /// Makes one more step of the answers that were begun, and answers whether none is left, also
+    /// if no answer was begun.
+    pub fn step_answers(&mut self) -> bool
         ensures { self.new ≡ self.old }
     {
-        let Some(prepared) = self.prepared.take() else {
-            return true;
-        };
-        let (prepared, whole) = prepared.stepped(self.kernel, &self.layer, &self.server, &self.a2);
-        self.prepared = Some(prepared);
-        whole
+        self.prepared
+            .step(self.kernel, &self.layer, &self.server, &self.a2)
     }
 
-    /// The answer that was begun, if it is whole and the one to this query.
+    /// The answer to this query, if it was begun and is whole.
     pub fn take_answer(&mut self, scheme: Scheme, query: &[u32]) -> Option<Vec<u32>>
         ensures same { self.new ≡ self.old }
         ensures answer { IfSome result (λ answer. answer.items ≡
             answer_words scheme self.old.plan self.old.records query.now) }
     {
-        let prepared = self.prepared.take()?;
-        match prepared.into_answer(scheme, query) {
-            Ok(answer) => Some(answer),
-            Err(kept) => {
-                self.prepared = kept;
-                None
-            }
-        }
+        self.prepared.take(scheme, query)
     }
 
-    /// Gives up the answer that was begun.
-    pub fn drop_answer(&mut self)
+    /// Gives up the answers that were begun.
+    pub fn drop_answers(&mut self)
         ensures { self.new ≡ self.old }
     {
-        self.prepared = None;
+        self.prepared.clear();
     }
 
     /// Puts blanks after the records, so many in all: the digits get columns of zeros, and no hint
@@ -287,7 +289,7 @@ impl<K: Kernel> Edition<K> {
     {
         // Called for what it says of the plan.
         self.layer.layout();
-        self.prepared = None;
+        self.prepared.clear();
         self.layer.grow(alloc, count)?;
         Ok(())
     }
@@ -315,7 +317,7 @@ impl<K: Kernel> Edition<K> {
         ensures marks { MarksChanges (digits_at self.old.plan self.old.records)
             (digits_at self.new.plan self.new.records) marks.old marks.new }
     {
-        self.prepared = None;
+        self.prepared.clear();
         apply_changes(self.kernel, &mut self.layer, changes, scratch, marks);
         let w = self.layer.layout().width();
         follow_rows(

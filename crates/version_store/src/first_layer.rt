@@ -23,7 +23,7 @@ use crate::held_records::HeldRecords;
 use digit_pack::{
     DigitStore, Layout, Wide3, copy_record, is_wide, nth_record, pack, record_buffer, write_record,
 };
-use double_scheme::{STEP_DIGITS, put_rows, rows_in_step};
+use double_scheme::{put_rows, put_two_rows, rows_in_step};
 use matrix_u32::{Kernel, Matrix};
 use pir_schemes::{Plan, Scheme};
 use seed_expand::expand;
@@ -31,6 +31,11 @@ use simple_scheme::{HintWatcher, setup_watched};
 use snapshot_file::RecordSource;
 use std::alloc::{AllocError, Global};
 use std::marker::Model;
+
+/// How many digits a step of a SimplePIR answer reads, unless one row has more: 2^23, which a
+/// processor of today multiplies in one to three milliseconds, also by two words each. They stay in
+/// its last cache, where a step finds them that multiplies the same rows by other queries.
+pub(crate) const STEP_DIGITS: usize = 8_388_608;
 
 /// What keeps the digits: three in a word.
 pub type Digits = Wide3;
@@ -232,6 +237,44 @@ impl FirstLayer {
         let digits = self.digits();
         let count = rows_in_step(STEP_DIGITS, query.len(), left);
         put_rows(kernel, digits, query, made, count, out);
+        made + count
+    }
+
+    /// The same for two queries, for which the digits are read once.
+    pub fn put_two_answer_rows<K: Kernel>(
+        &self,
+        kernel: K,
+        x: &[u32],
+        y: &[u32],
+        made: usize,
+        x_out: &mut [u32],
+        y_out: &mut [u32],
+    ) -> usize
+        requires x { length x.now ≡ digit_cols (version_shape self.now) }
+        requires y { length y.now ≡ digit_cols (version_shape self.now) }
+        requires x_room { length x_out.old ≡ digit_rows (version_shape self.now) }
+        requires y_room { length y_out.old ≡ digit_rows (version_shape self.now) }
+        requires within { made ≤ digit_rows (version_shape self.now) }
+        requires x_so_far { HasFirst made (times_vector
+            (digits_at self.now.plan self.now.records) x.now) x_out.old }
+        requires y_so_far { HasFirst made (times_vector
+            (digits_at self.now.plan self.now.records) y.now) y_out.old }
+        ensures x_so_far { HasFirst result (times_vector
+            (digits_at self.now.plan self.now.records) x.now) x_out.new }
+        ensures y_so_far { HasFirst result (times_vector
+            (digits_at self.now.plan self.now.records) y.now) y_out.new }
+        ensures within { result ≤ digit_rows (version_shape self.now) }
+        ensures forward { made ≡ digit_rows (version_shape self.now) ⊎ made < result }
+        ensures x_len { length x_out.new ≡ length x_out.old }
+        ensures y_len { length y_out.new ≡ length y_out.old }
+    {
+        let left = x_out.len() - made;
+        if left == 0 {
+            return made;
+        }
+        let digits = self.digits();
+        let count = rows_in_step(STEP_DIGITS, x.len(), left);
+        put_two_rows(kernel, digits, x, y, made, count, x_out, y_out);
         made + count
     }
 

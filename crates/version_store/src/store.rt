@@ -31,6 +31,8 @@ ghost use Rattle.version_store.specs.OldRecords.{draft_olds};
 ghost use Rattle.version_store.specs.DraftChanges.{IsNextChange, HasNoChange};
 ghost use Rattle.version_store.specs.Names.{append_fault_name, edit_fault_name, publish_fault_name};
 
+mod answers;
+
 use crate::answer_buffers::AnswerBuffers;
 use crate::drafts::{Changes, first_change};
 use crate::edition::Edition;
@@ -521,40 +523,6 @@ impl<K: Kernel> Store<K> {
     /// Whether an answer of a scheme is so long that it is made in more than one step.
     pub fn has_steps(&self, scheme: Scheme) -> bool {
         self.edition.has_steps(scheme)
-    }
-
-    /// Begins the answer to the words of a query on the current version, which
-    /// [`Store::step_answer`] makes step by step, and gives up another one that was begun.
-    /// Contracts see nothing of it. Only refused memory gives an `Err`, and then none is begun.
-    pub fn begin_answer(&mut self, scheme: Scheme, words: Vec<u32>) -> Result<(), AllocError>
-        requires { length words.items ≡ query_count scheme (version_shape self.old.edition) }
-        ensures { self.new ≡ self.old }
-    {
-        self.edition.begin_answer(self.alloc, scheme, words)
-    }
-
-    /// Makes one more step of the answer that was begun, and answers whether none is left: also if
-    /// none was begun, or it was given up for another version. It takes no memory.
-    pub fn step_answer(&mut self) -> bool
-        ensures { self.new ≡ self.old }
-    {
-        self.edition.step_answer()
-    }
-
-    /// The answer that was begun, once, if it is whole and to these words on the current version.
-    pub fn take_answer(&mut self, scheme: Scheme, words: &[u32]) -> Option<Vec<u32>>
-        ensures same { self.new ≡ self.old }
-        ensures answer { IfSome result (λ answer. answer.items ≡ answer_words scheme
-            self.old.edition.plan self.old.edition.records words.now) }
-    {
-        self.edition.take_answer(scheme, words)
-    }
-
-    /// Gives up the answer that was begun.
-    pub fn drop_answer(&mut self)
-        ensures { self.new ≡ self.old }
-    {
-        self.edition.drop_answer();
     }
 
     /// The answer to the words of a query, in the scheme of the buffers. It takes no memory.

@@ -55,7 +55,7 @@ invariant_of-self g c =
           c.width-w.result c.args.marks.now c.apply_changes.new.marks c.apply_changes.ensures.records long c.hint.ensures.value
           (c.requires.marks ∙ sym (ap (λ e. digit_rows (version_shape e)) c.self.view_is)) c.apply_changes.ensures.marks
           (c.width-w.ensures.value ∙ ap (λ l. l.width) c.layout.ensures.value) c.follow_rows.ensures c.self.invariant.0,
-      tt,
+      c.clear.ensures _,
     )
 
 pub returns-clause-marks : goal.returns-clause-marks

@@ -30,7 +30,7 @@ invariant_of-result g c =
         server = server;
         client = c.in_ok-server.ensures.client ∙ ap (λ m. product m a2) server;
       }),
-      tt,
+      c.none.ensures _,
     )
 
 pub setup_watched-requires-clause-room : goal.setup_watched-requires-clause-room
