@@ -8,6 +8,7 @@
 #![tactic(auto)]
 
 pub mod laws;
+mod passes;
 mod replies;
 mod serve;
 mod server;

@@ -1,10 +1,12 @@
 //! Sessions over one store.
 
 ghost use Rattle.std.specs.Prelude.{◌≡◌, ◌≢◌, ◌⊎◌, ◌≤◌, ◌<◌, ◌^◌, ◌+◌, ◌↔◌, ℕ, length, IsTrue};
-ghost use Rattle.std.specs.Prelude.{OnOk, OnErr, IfOk, IsSome, Some, None, IsErrOf, is_some};
-ghost use Rattle.std.specs.Prelude.{slice_set, true, false};
+ghost use Rattle.std.specs.Prelude.{OnOk, OnErr, IfOk, IfSome, IsSome, Some, None, IsErrOf};
+ghost use Rattle.std.specs.Prelude.{is_some, slice_set, true, false};
 ghost use Rattle.digit_pack.specs.Layout.{is_layout};
 ghost use Rattle.pir_schemes.specs.Plans.{fits, shape_at};
+ghost use Rattle.pir_schemes.specs.Retrievals.{query_count};
+ghost use Rattle.version_store.specs.Editions.{version_shape};
 ghost use Rattle.version_store.specs.Histories.{History, StandsFor, after_edit, after_append};
 ghost use Rattle.version_store.specs.Histories.{published, undrafted, held_appended};
 ghost use Rattle.version_store.specs.Histories.{held_published, without_draft};
@@ -14,6 +16,7 @@ ghost use Rattle.server_core.specs.Cores.{OnNoSession, unfinished_in};
 ghost use Rattle.server_core.specs.Serving.{setting_of, IsFull, PublishesIf};
 ghost use Rattle.server_core.specs.Sessions as sessions;
 
+use crate::passes::{Passes, WaitingQuery};
 use crate::serve::has_wide_frames;
 use crate::session::{Coming, Session};
 use matrix_u32::Kernel;
@@ -55,8 +58,8 @@ pub struct ServerCore<K: Kernel> {
     alloc: Global,
     store: Store<K>,
     sessions: BTreeMap<u64, Session>,
-    // The session whose answer is begun, and not made to its end.
-    answering: Option<u64>,
+    // Whose long answers are made, and whose queries wait for the end of that.
+    passes: Passes,
     // A session that waits for that end, to publish.
     publishing: Option<u64>,
 }
@@ -79,7 +82,7 @@ impl<K: Kernel> ServerCore<K> {
             alloc,
             store,
             sessions: BTreeMap::new(alloc),
-            answering: None,
+            passes: Passes::new(alloc),
             publishing: None,
         }
     }
@@ -168,13 +171,17 @@ impl<K: Kernel> ServerCore<K> {
     /// While this answers false the same piece is to come here again, after the other sessions have
     /// had their turns. A piece may not be fed
     ///
-    /// - when its next frame is a query whose answer lacks a step, is not begun while another
-    ///   session's is, or would be begun while a publication waits;
+    /// - when its next frame is a query whose answer lacks a step, is not begun while those of
+    ///   other sessions are not all given, or would be begun while a publication waits;
     /// - when its next frame publishes, and another session's answer is begun, which the
     ///   publication would give up.
     ///
-    /// All other pieces may be fed. Contracts see no more of this: fed at once each piece is
-    /// answered the same, only that the whole answer is made in the feed.
+    /// All other pieces may be fed. Queries of SimplePIR that could not be begun, three at most,
+    /// are begun together with the next one that is, and their answers made with it: two in one
+    /// pass over the digits. No query waits for others to come.
+    ///
+    /// Contracts see no more of this: fed at once each piece is answered the same, only that the
+    /// whole answer is made in the feed.
     pub fn prepare(&mut self, id: u64, piece: &[u8]) -> bool
         ensures same { self.new ≡ self.old }
         ensures only { result ≡ false → MayWait self.old id piece.now }
@@ -212,62 +219,119 @@ impl<K: Kernel> ServerCore<K> {
     fn prepare_publication(&mut self, id: u64) -> bool
         ensures { self.new ≡ self.old }
     {
-        if self.answering.is_some() {
+        if self.passes.is_busy() {
             self.publishing = Some(id);
             return false;
         }
         self.forget_publication(id);
+        // Queries that wait are of the version that ends here.
+        self.passes.forget_all();
         true
     }
 
-    /// Makes a step of the answer to a session's next query, and answers whether this may be fed
-    /// now.
+    /// Makes a step of the answer to a session's next query and of those that are begun with it,
+    /// and answers whether this query may be fed now.
     fn prepare_answer(&mut self, id: u64, piece: &[u8], scheme: Scheme) -> bool
         ensures { self.new ≡ self.old }
     {
-        if self.answering == Some(id) {
-            return self.make_step();
+        if self.passes.has_begun(id) {
+            return self.make_step(id);
         }
-        if self.answering.is_some() || self.publishing.is_some() {
+        if self.passes.is_busy() || self.publishing.is_some() {
+            self.put_off(id, piece, scheme);
             return false;
         }
         // Without memory to begin it the query is fed, and answered or refused at once.
         if !self.begin_answer(id, piece, scheme) {
             return true;
         }
-        self.make_step()
+        self.make_step(id)
     }
 
-    /// Begins the answer to a session's next query, and answers whether there was memory for it.
-    fn begin_answer(&mut self, id: u64, piece: &[u8], scheme: Scheme) -> bool
+    /// Has a session's next query wait, if it is one of SimplePIR and there is room.
+    fn put_off(&mut self, id: u64, piece: &[u8], scheme: Scheme)
         ensures { self.new ≡ self.old }
     {
+        if scheme != Scheme::Simple || !self.passes.may_wait(id) {
+            return;
+        }
+        if let Some(words) = self.next_words(id, piece, scheme) {
+            self.passes.wait(id, words);
+        }
+    }
+
+    /// The words of a session's next query, if it is one of a scheme, unless memory is refused.
+    fn next_words(&self, id: u64, piece: &[u8], scheme: Scheme) -> Option<Vec<u32>>
+        ensures { IfSome result (λ words. length words.items ≡
+            query_count scheme (version_shape self.now.store.edition)) }
+    {
         let Some(session) = self.sessions.get(&id) else {
-            return false;
+            return None;
         };
-        let Some(words) = session.next_words(
+        session.next_words(
             has_wide_frames(&self.store),
             piece,
             self.store.query_words(scheme),
-        ) else {
+        )
+    }
+
+    /// Begins the answer to a session's next query, and those to the queries that wait, and answers
+    /// whether there was memory for the first.
+    fn begin_answer(&mut self, id: u64, piece: &[u8], scheme: Scheme) -> bool
+        ensures { self.new ≡ self.old }
+    {
+        let Some(words) = self.next_words(id, piece, scheme) else {
             return false;
         };
         if self.store.begin_answer(scheme, words).is_err() {
             return false;
         }
-        self.answering = Some(id);
+        self.passes.begin(id);
+        self.passes.forget(id);
+        if scheme == Scheme::Simple {
+            self.begin_waiting();
+        }
         true
     }
 
-    /// Makes a step of the answer that is begun, and answers whether none is left.
-    fn make_step(&mut self) -> bool
+    /// Begins the answers to the queries that wait, of which there are three at most.
+    fn begin_waiting(&mut self)
         ensures { self.new ≡ self.old }
     {
-        let is_made = self.store.step_answer();
-        if is_made {
-            self.answering = None;
+        self.begin_next();
+        self.begin_next();
+        self.begin_next();
+    }
+
+    /// Begins the answer to the query that has waited longest, if there is memory for it and the
+    /// layout is still that of the query.
+    fn begin_next(&mut self)
+        ensures { self.new ≡ self.old }
+    {
+        let Some(WaitingQuery { id, words }) = self.passes.next() else {
+            return;
+        };
+        if words.len() != self.store.query_words(Scheme::Simple) {
+            return;
         }
-        is_made
+        if self.store.add_answer(Scheme::Simple, words).is_ok() {
+            self.passes.add(id);
+        }
+    }
+
+    /// Makes a step of the answers that are begun, unless they are whole, and answers whether they
+    /// are; then this session's is to be given.
+    fn make_step(&mut self, id: u64) -> bool
+        ensures { self.new ≡ self.old }
+    {
+        if !self.passes.is_whole() && self.store.step_answers() {
+            self.passes.end();
+        }
+        if !self.passes.is_whole() {
+            return false;
+        }
+        self.passes.remove(id);
+        true
     }
 
     /// Gives up the answer of a session that is closed, and waits no more for such a one's
@@ -275,10 +339,8 @@ impl<K: Kernel> ServerCore<K> {
     fn forget_closed(&mut self)
         ensures { self.new ≡ self.old }
     {
-        if let Some(id) = self.answering {
-            if !self.is_open(id) {
-                self.forget_answer(id);
-            }
+        if let Some(id) = self.closed_one() {
+            self.forget_answer(id);
         }
         if let Some(id) = self.publishing {
             if !self.is_open(id) {
@@ -287,13 +349,30 @@ impl<K: Kernel> ServerCore<K> {
         }
     }
 
-    /// Gives up the answer that is begun, if it is this session's.
+    /// A session whose answer is begun, and that is closed.
+    fn closed_one(&self) -> Option<u64> {
+        let begun = self.passes.begun();
+        for k in 0..begun.len() {
+            if let Some(id) = begun[k] {
+                if !self.is_open(id) {
+                    return Some(id);
+                }
+            }
+        }
+        None
+    }
+
+    /// Gives up the answer of a session that is begun, and its query that waits.
     fn forget_answer(&mut self, id: u64)
         ensures { self.new ≡ self.old }
     {
-        if self.answering == Some(id) {
-            self.store.drop_answer();
-            self.answering = None;
+        self.passes.forget(id);
+        if !self.passes.has_begun(id) {
+            return;
+        }
+        self.passes.remove(id);
+        if !self.passes.is_busy() {
+            self.store.drop_answers();
         }
     }
 
