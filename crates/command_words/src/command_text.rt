@@ -34,6 +34,13 @@ pub enum Argument {
         value: &'static str,
         help: &'static str,
     },
+    /// A clearer name of an option that may be left out: it may not be given beside that one.
+    ClearerName {
+        of: &'static str,
+        name: &'static str,
+        value: &'static str,
+        help: &'static str,
+    },
     /// An option that must be given if another one is not, and may not be if it is.
     InPlaceOf {
         other: &'static str,
@@ -84,6 +91,12 @@ impl Argument {
             Argument::Verbose => Ok(verbose_flag(alloc)),
             Argument::Required { name, value, help } => Ok(option(alloc, name, value, help)),
             Argument::Optional { name, value, help } => Ok(optional(alloc, name, value, help)),
+            Argument::ClearerName {
+                of,
+                name,
+                value,
+                help,
+            } => optional(alloc, name, value, help).conflicts_with(of),
             Argument::InPlaceOf {
                 other,
                 name,

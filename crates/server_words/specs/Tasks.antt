@@ -93,13 +93,26 @@ ReadsGrace found grace =
     (stops : Bool) × IsFlagGiven found (codes "until-eof") stops
     × MatchBool stops (IsSomeAnd grace (IsNumberOr 10 found (codes "grace"))) ((grace ≡ None) × (first_value found (codes "grace") ≡ None))
 
+-- how many connections there may be at once: the number given by the option's clearer name or, if
+-- there is none, by the other one, or 256
+abbrev pub ReadsMost : Found → ℕ → Type 0
+ReadsMost found most =
+    MatchOption (first_value found (codes "max-connections")) (IsNumberOr 256 found (codes "most") most)
+    (λ text. IsNumeral 10 text × (digits_value 10 text ≡ most))
+
+-- how many connections one address may have: the number given by either name, or none
+abbrev pub ReadsMostPerPeer : Found → Option ℕ → Type 0
+ReadsMostPerPeer found most =
+    MatchOption (first_value found (codes "max-connections-per-peer")) (IsNumberIf found (codes "most-per-peer") most)
+    (λ text. IsNumeral 10 text × (most ≡ Some (digits_value 10 text)))
+
 -- connections side by side, as those of `run` do, but the addresses, whether it is quiet, and
 -- whether is said how far the hints are
 abbrev pub ReadsRun : Found → RunOptions → Type 0
 ReadsRun found running =
-    (first_value found (codes "file") ≡ Some running.file.now) × IsNumberOr 256 found (codes "most") running.most
+    (first_value found (codes "file") ≡ Some running.file.now) × ReadsMost found running.most
     × IsNumberOr 60 found (codes "idle") running.idle × IsNumberOr 256 found (codes "memory") running.memory × IsNumberOr 64 found (codes "log-limit") running.log_limit
-    × ReadsGrace found running.grace × IsNumberIf found (codes "most-per-peer") running.most_per_peer × ReadsFormat found running.log
+    × ReadsGrace found running.grace × ReadsMostPerPeer found running.most_per_peer × ReadsFormat found running.log
     × ReadsDraft found running.draft
 
 -- a copy of a file's last version, as those of `backup` do

@@ -3,7 +3,7 @@
 ghost use Rattle.std.specs.Prelude.{◌≤◌, IfOk, IfSome};
 ghost use Rattle.clap.specs.Matches.{found_of};
 ghost use Rattle.server_words.specs.Tasks.{IsNumberIf, IsNumberOr, ReadsDraft, ReadsFormat};
-ghost use Rattle.server_words.specs.Tasks.{ReadsGrace, ReadsRun};
+ghost use Rattle.server_words.specs.Tasks.{ReadsGrace, ReadsMost, ReadsMostPerPeer, ReadsRun};
 
 use clap::ArgMatches;
 use command_words::{Argument, BadLine, CommandText, number_at, text_at};
@@ -18,6 +18,8 @@ const STATUS_TAKES: &str = "--status takes an address and a port, as 127.0.0.1:9
 
 const MOST_TAKES: &str = "--most takes a number from 1 to 65535";
 
+const MAX_CONNECTIONS_TAKES: &str = "--max-connections takes a number from 1 to 65535";
+
 const IDLE_TAKES: &str = "--idle takes a number of seconds from 1 to 86400";
 
 const MEMORY_TAKES: &str = "--memory takes a number of MiB from 1 to 1048576";
@@ -25,6 +27,8 @@ const MEMORY_TAKES: &str = "--memory takes a number of MiB from 1 to 1048576";
 const LOG_LIMIT_TAKES: &str = "--log-limit takes a number of MiB from 1 to 1048576";
 
 const MOST_PER_PEER_TAKES: &str = "--most-per-peer takes a number from 1 to 65535";
+
+const MAX_PER_PEER_TAKES: &str = "--max-connections-per-peer takes a number from 1 to 65535";
 
 const DRAFT_TAKES: &str = "--draft takes publication or session";
 
@@ -41,7 +45,7 @@ const GRACE: u64 = 10;
 /// is not given.
 const LOG_LIMIT: u64 = 64;
 
-/// How many connections there may be at once where `--most` is not given.
+/// How many connections there may be at once if neither `--max-connections` nor `--most` is given.
 const MOST: u64 = 256;
 
 /// After how many seconds without progress a connection is closed where `--idle` is not given.
@@ -122,6 +126,12 @@ pub const RUN: CommandText = CommandText {
             help: "How many connections there may be at once, 1 to 65535, and 16 fewer than the \
                 process may have descriptors; others wait until one ends (256 if not given)",
         },
+        Argument::ClearerName {
+            of: "most",
+            name: "max-connections",
+            value: "N",
+            help: "The same as --most, which may not be given beside it",
+        },
         Argument::Optional {
             name: "idle",
             value: "SECONDS",
@@ -146,6 +156,12 @@ pub const RUN: CommandText = CommandText {
             value: "N",
             help: "How many connections one IP address may have at once, 1 to 65535; one more is \
                 closed at once (not bounded if not given)",
+        },
+        Argument::ClearerName {
+            of: "most-per-peer",
+            name: "max-connections-per-peer",
+            value: "N",
+            help: "The same as --most-per-peer, which may not be given beside it",
         },
         Argument::Optional {
             name: "status",
@@ -204,18 +220,51 @@ pub fn options_of_run<'a>(found: &ArgMatches<'a>) -> Result<RunOptions<'a>, BadL
     Ok(RunOptions {
         file: text_at(found, "file", FILE_TAKES)?,
         listen: address_at(found)?,
-        most: number_or(found, "most", MOST, 65_535, MOST_TAKES)? as usize,
+        most: most_at(found)? as usize,
         idle: number_or(found, "idle", IDLE, 86_400, IDLE_TAKES)?,
         memory: number_or(found, "memory", MEMORY, 1_048_576, MEMORY_TAKES)?,
         log_limit: number_or(found, "log-limit", LOG_LIMIT, 1_048_576, LOG_LIMIT_TAKES)?,
         grace: grace_at(found)?,
-        most_per_peer: number_if(found, "most-per-peer", 65_535, MOST_PER_PEER_TAKES)?,
+        most_per_peer: most_per_peer_at(found)?,
         status: status_at(found)?,
         log: format_at(found)?,
         draft: draft_at(found)?,
         quiet: found.get_flag("quiet"),
         progress: found.get_flag("progress"),
     })
+}
+
+// How many connections there may be at once, by either name of the option.
+fn most_at<'a>(found: &ArgMatches<'a>) -> Result<u64, BadLine<'a>>
+    ensures within { IfOk result (λ most. (1 ≤ most) × (most ≤ 65535)) }
+    ensures read { IfOk result (ReadsMost (found_of found.now)) }
+{
+    match found.get_str("max-connections") {
+        None => number_or(found, "most", MOST, 65_535, MOST_TAKES),
+        Some(_) => number_or(
+            found,
+            "max-connections",
+            MOST,
+            65_535,
+            MAX_CONNECTIONS_TAKES,
+        ),
+    }
+}
+
+// How many connections one address may have, by either name of the option, if that is bounded.
+fn most_per_peer_at<'a>(found: &ArgMatches<'a>) -> Result<Option<u64>, BadLine<'a>>
+    ensures within { IfOk result (λ most. IfSome most (λ n. (1 ≤ n) × (n ≤ 65535))) }
+    ensures read { IfOk result (ReadsMostPerPeer (found_of found.now)) }
+{
+    match found.get_str("max-connections-per-peer") {
+        None => number_if(found, "most-per-peer", 65_535, MOST_PER_PEER_TAKES),
+        Some(_) => number_if(
+            found,
+            "max-connections-per-peer",
+            65_535,
+            MAX_PER_PEER_TAKES,
+        ),
+    }
 }
 
 // How the lines of the log are written, if that is given.
