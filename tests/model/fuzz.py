@@ -18,7 +18,8 @@ import random
 import sys
 import time
 
-from areas import Changes, Limits, Moves, Once, Orders, Replies, Scripts, Snapshots, Streams
+from areas import Changes, Limits, Moves, Once, Orders, Replies, Scripts, Streams
+from snapshots import Snapshots
 
 HERE = os.path.dirname(os.path.abspath(__file__))
 # Areas of which all cases are run once, before the others.
