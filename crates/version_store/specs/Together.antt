@@ -1,5 +1,6 @@
 -- Answers that are made together.
-use Rattle.std.specs.Prelude.{◌≡◌, ◌<◌, ◌⊎◌, Option, Some, None}
+use Rattle.std.specs.Prelude.{◌≡◌, ◌<◌, ◌⊎◌, ℕ, List, Option, Some, None}
+use Rattle.pir_schemes.specs.declared.scheme.Scheme.{Scheme}
 use Rattle.version_store.specs.Editions.{Records}
 use Rattle.version_store.specs.Preparing.{IsAllMade, IsMakingFor, IsPrepared, amount_made, scheme_made}
 use Rattle.version_store.specs.declared.preparing.Preparation.{Preparation}
@@ -36,3 +37,13 @@ pub record AreAllMade (ps : Preparations) : Type 0 where
   pub second : IsAllMadeIf ps.second
   pub third : IsAllMadeIf ps.third
   pub fourth : IsAllMadeIf ps.fourth
+
+-- a whole answer to these words in a scheme, if there is one
+abbrev pub IsWholeFor : Scheme → List ℕ → Option Preparation → Type 0
+IsWholeFor scheme words None = ⊥
+IsWholeFor scheme words (Some p) = IsAllMade p.making × (scheme_made p.making ≡ scheme) × (p.query.items ≡ words)
+
+-- one of the answers is whole, and the one to these words in a scheme
+abbrev pub HasWholeFor : Scheme → List ℕ → Preparations → Type 0
+HasWholeFor scheme words ps =
+    IsWholeFor scheme words ps.first ⊎ IsWholeFor scheme words ps.second ⊎ IsWholeFor scheme words ps.third ⊎ IsWholeFor scheme words ps.fourth

@@ -1,7 +1,7 @@
 //! The answers that are made in steps.
 
-ghost use Rattle.std.specs.Prelude.{◌≡◌, ◌≤◌, ◌<◌, ◌+◌, ◌*◌, ◌⊎◌, ◌↔◌, ℕ, List, IfOk, IfErr, IfSome};
-ghost use Rattle.std.specs.Prelude.{IsTrue, Some, is_ok, length, true};
+ghost use Rattle.std.specs.Prelude.{◌≡◌, ◌≤◌, ◌<◌, ◌+◌, ◌*◌, ◌⊎◌, ◌↔◌, ℕ, List, IfOk, IfErr};
+ghost use Rattle.std.specs.Prelude.{IfSome, IsTrue, Some, is_ok, is_some, length, true};
 ghost use Rattle.matrix_u32.specs.Matrix.{WordMatrix, times_vector};
 ghost use Rattle.digit_pack.specs.Layout.{digit_rows};
 ghost use Rattle.double_scheme.specs.Steps.{HasFirst};
@@ -10,8 +10,8 @@ ghost use Rattle.pir_schemes.specs.Retrievals.{answer_words, query_count};
 ghost use Rattle.version_store.specs.Editions.{Records, IsMadeTwice, version_shape};
 ghost use Rattle.version_store.specs.Preparing.{GivesAnswer, IsAllMade, IsMakingFor, IsPrepared};
 ghost use Rattle.version_store.specs.Preparing.{amount_made, scheme_made};
-ghost use Rattle.version_store.specs.Together.{ArePrepared, AreAllMade, IsStepped, IsSteppedIf};
-ghost use Rattle.version_store.specs.Together.{IsAllMadeIf};
+ghost use Rattle.version_store.specs.Together.{ArePrepared, AreAllMade, HasWholeFor, IsStepped};
+ghost use Rattle.version_store.specs.Together.{IsAllMadeIf, IsSteppedIf, IsWholeFor};
 
 use crate::first_layer::{Digits, FirstLayer};
 use digit_pack::Layout;
@@ -206,6 +206,7 @@ impl Preparations {
         ensures left { (e : Records) → ArePrepared e self.old → ArePrepared e self.new }
         ensures answer { (e : Records) → ArePrepared e self.old → IfSome result (λ answer.
             answer.items ≡ answer_words scheme e.plan e.records query.now) }
+        ensures given { HasWholeFor scheme query.now self.old → IsTrue (is_some result) }
     {
         let begun = mem::replace(self, Preparations::none());
         let (left, answer) = begun.taken(scheme, query);
@@ -234,37 +235,15 @@ impl Preparations {
             third,
             fourth,
         } = self;
-        match (first, second, third, fourth) {
-            (None, second, third, fourth) => Preparations {
-                first: Some(one),
-                second,
-                third,
-                fourth,
-            },
-            (first, None, third, fourth) => Preparations {
-                first,
-                second: Some(one),
-                third,
-                fourth,
-            },
-            (first, second, None, fourth) => Preparations {
-                first,
-                second,
-                third: Some(one),
-                fourth,
-            },
-            (first, second, third, None) => Preparations {
-                first,
-                second,
-                third,
-                fourth: Some(one),
-            },
-            (first, second, third, fourth) => Preparations {
-                first,
-                second,
-                third,
-                fourth,
-            },
+        let (first, later) = put_in(first, Some(one));
+        let (second, last) = put_in(second, later);
+        let (third, left) = put_in(third, last);
+        let (fourth, _dropped) = put_in(fourth, left);
+        Preparations {
+            first,
+            second,
+            third,
+            fourth,
         }
     }
 
@@ -306,6 +285,7 @@ impl Preparations {
         ensures left { (e : Records) → ArePrepared e self → ArePrepared e result.0 }
         ensures answer { (e : Records) → ArePrepared e self → IfSome result.1 (λ answer.
             answer.items ≡ answer_words scheme e.plan e.records query.now) }
+        ensures given { HasWholeFor scheme query.now self → IsTrue (is_some result.1) }
     {
         let Preparations {
             first,
@@ -324,6 +304,21 @@ impl Preparations {
             fourth,
         };
         (left, answer)
+    }
+}
+
+// What stands in a place, into which one more is put if it is empty, and what is left of that one.
+fn put_in(
+    place: Option<Preparation>,
+    one: Option<Preparation>,
+) -> (Option<Preparation>, Option<Preparation>)
+    ensures place { (e : Records) → IsPrepared e place → IsPrepared e one →
+        IsPrepared e result.0 }
+    ensures left { (e : Records) → IsPrepared e one → IsPrepared e result.1 }
+{
+    match place {
+        Some(stands) => (Some(stands), one),
+        None => (one, None),
     }
 }
 
@@ -458,6 +453,8 @@ fn taken_from(
     ensures answer { (e : Records) → IsPrepared e prepared →
         IfSome found (λ answer. answer.items ≡ answer_words scheme e.plan e.records query.now) →
         IfSome result.1 (λ answer. answer.items ≡ answer_words scheme e.plan e.records query.now) }
+    ensures given { IsWholeFor scheme query.now prepared → IsTrue (is_some result.1) }
+    ensures kept { IsTrue (is_some found) → IsTrue (is_some result.1) }
 {
     match (prepared, found) {
         (prepared, Some(found)) => (prepared, Some(found)),

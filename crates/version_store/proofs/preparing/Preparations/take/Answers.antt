@@ -1,5 +1,5 @@
 use Rattle.std.proofs.Common.{subst, sym}
-use Rattle.version_store.specs.Together.{ArePrepared}
+use Rattle.version_store.specs.Together.{ArePrepared, HasWholeFor}
 use Rattle.version_store.proofs.preparing.Preparations.take.Goals as goal
 
 pub returns-clause-left : goal.returns-clause-left
@@ -10,3 +10,7 @@ returns-clause-left c e so_far =
 pub returns-clause-answer : goal.returns-clause-answer
 returns-clause-answer c e so_far =
     c.taken-left.ensures.answer e (subst (ArePrepared e) (sym c.replace-begun.ensures.value) so_far)
+
+pub returns-clause-given : goal.returns-clause-given
+returns-clause-given c whole =
+    c.taken-left.ensures.given (subst (HasWholeFor c.args.scheme c.args.query.now) (sym c.replace-begun.ensures.value) whole)
