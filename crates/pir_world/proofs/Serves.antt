@@ -15,6 +15,7 @@ use Rattle.version_store.specs.Histories.{History, changes_since, current_versio
 use Rattle.server_core.specs.declared.standing.Standing.{Standing}
 use Rattle.server_core.specs.declared.standing.Standing.TheVariants.{Reader}
 use Rattle.server_core.specs.Serving.{Setting, Outcome, changes_asked, is_closed, is_wide_setting, most_changes, is_reader_key, has_part, hint_words, words_asked, no_delta, delta_asked}
+use Rattle.server_core.proofs.Granted.{delta_granted, changes_granted}
 use Rattle.client_core.specs.declared.state.ClientState.{ClientState}
 use Rattle.client_core.specs.declared.state.ServerInfo.{ServerInfo}
 use Rattle.client_core.specs.declared.state.Call.{Call}
@@ -174,7 +175,9 @@ module _ (x : Setting) (h : History) (g : GoodHistory x h) (seed : List ℕ) (si
 
   replied_delta : (short : Bool) → Replied x h seed Reader (Delta since) (frame.DeltaAsk since) (served_or short x h Reader (frame.DeltaAsk since))
   replied_delta false = asked_rows (delta_rows x.plan h since) refl
-  replied_delta true = record { history_is = refl; unclosed = refl; reader = λ e. e; reply = (_, refl, inl refl); right = tt }
+  replied_delta true =
+      rw (delta_granted x h Reader since (delta_rows x.plan h since))
+      (record { history_is = refl; unclosed = refl; reader = λ e. e; reply = (_, refl, inl refl); right = tt })
 
 -- ---- the records that changed
 
@@ -233,7 +236,9 @@ module _ (x : Setting) (h : History) (g : GoodHistory x h) (seed : List ℕ) (si
 
   replied_changes : (short : Bool) → Replied x h seed Reader (Changes since) (frame.ChangesAsk since) (served_or short x h Reader (frame.ChangesAsk since))
   replied_changes false = rw wide (asked_changes (changes_since x.plan h since (most_changes x)) refl)
-  replied_changes true = rw wide (record { history_is = refl; unclosed = refl; reader = λ e. e; reply = (_, refl, inl refl); right = tt })
+  replied_changes true =
+      rw (wide, changes_granted x h Reader since (changes_since x.plan h since (most_changes x)))
+      (record { history_is = refl; unclosed = refl; reader = λ e. e; reply = (_, refl, inl refl); right = tt })
 
 -- ---- a query
 

@@ -9,6 +9,7 @@ pub mod Firsts
 pub mod Runs
 pub mod Alike
 pub mod Deltas
+pub mod Granted
 pub mod Memories
 pub mod ReplyKinds
 pub mod Replicas

@@ -1,5 +1,5 @@
 -- What the server does with a frame.
-use Rattle.std.specs.Prelude.{◌≡◌, ℕ, ◌+◌, ◌*◌, ◌^◌, ◌<◌, ◌≤◌, List, [], ◌∷◌, ◌++◌, length, map, take, replicate, Bool, true, false, not, min, Option, Some, None, ◌==◌, ◌⊎◌, nat_eq, nat_le, nat_lt, if◌then◌else◌, MatchBool, option_to_list, vec_len, vec_capacity}
+use Rattle.std.specs.Prelude.{◌≡◌, ℕ, ◌+◌, ◌*◌, ◌^◌, ◌<◌, ◌≤◌, List, [], ◌∷◌, ◌++◌, length, map, take, replicate, Bool, true, false, min, Option, Some, None, ◌==◌, ◌⊎◌, nat_eq, nat_le, nat_lt, if◌then◌else◌, MatchBool, option_to_list, vec_len, vec_capacity}
 use Rattle.std.specs.Cmp.Lexicographic.{pointwise}
 use Rattle.std.specs.declared.vec.Vec.{Vec}
 use Rattle.std.specs.declared.alloc.Global.{Global}
@@ -17,7 +17,7 @@ use Rattle.pir_schemes.specs.Retrievals.{hint_matrix, query_count, answer_count,
 use Rattle.version_store.specs.Histories.{StoreState, History, StandsFor, current_version, after_edit, after_append, published, delta_rows, changes_since}
 use Rattle.version_store.specs.OldRecords.{most_old_bytes}
 use Rattle.frame_codec.specs.declared.frame.Frame.{Frame}
-use Rattle.frame_codec.specs.declared.frame.Frame.TheVariants.{Hello, HintAsk, DeltaAsk, Query, Edit, Append, Publish, Bye, ChangesAsk, Welcome, HintPart, Delta, Answer, Stale, Done, NoDelta, Changes}
+use Rattle.frame_codec.specs.declared.frame.Frame.TheVariants.{Hello, HintAsk, DeltaAsk, Query, Edit, Append, Publish, Bye, ChangesAsk, Welcome, HintPart, Delta, Answer, Stale, Done, NoDelta, Changes, Refused}
 use Rattle.frame_codec.specs.declared.refusal.Refusal.{Refusal}
 use Rattle.frame_codec.specs.declared.refusal.Refusal.TheVariants as refusal
 use Rattle.frame_codec.specs.Refusals.{refused}
@@ -172,6 +172,14 @@ query_asked x h st (Some scheme) version words =
     else refuses refusal.BadQueryLength st h)
     else stale st h
 
+-- what a frame leads to whose sender has to have been greeted
+abbrev pub to_reader : Standing → History → Outcome → Outcome
+to_reader st h o = if is_welcome st then o else refuses refusal.NotWelcome st h
+
+-- and one whose sender has to be the publisher
+abbrev pub to_publisher : Standing → History → Outcome → Outcome
+to_publisher st h o = to_reader st h (if is_publisher st then o else refuses refusal.NotPublisher st h)
+
 -- What a frame leads to, in an open session: the first check that applies decides. Words of hints
 -- and answers are made from scratch.
 abbrev pub outcome_of_frame : Setting → History → Standing → Frame → Outcome
@@ -181,77 +189,47 @@ outcome_of_frame x h st (Hello profile key) =
     if is_publisher_key x key then welcomes x Publisher h
     else refuses refusal.BadKey st h))
     else refuses refusal.BadProfile st h
-outcome_of_frame x h st (HintAsk scheme version part) =
-    if is_welcome st then hint_asked x h st (scheme_of_byte scheme) version part else refuses refusal.NotWelcome st h
-outcome_of_frame x h st (DeltaAsk since) =
-    if is_welcome st then delta_asked x h st since (delta_rows x.plan h since) else refuses refusal.NotWelcome st h
-outcome_of_frame x h st (Query scheme version words) =
-    if is_welcome st then query_asked x h st (scheme_of_byte scheme) version words else refuses refusal.NotWelcome st h
+outcome_of_frame x h st (HintAsk scheme version part) = to_reader st h (hint_asked x h st (scheme_of_byte scheme) version part)
+outcome_of_frame x h st (DeltaAsk since) = to_reader st h (delta_asked x h st since (delta_rows x.plan h since))
+outcome_of_frame x h st (Query scheme version words) = to_reader st h (query_asked x h st (scheme_of_byte scheme) version words)
 outcome_of_frame x h st (Edit index bytes) =
-    if is_welcome st then (
-    if is_publisher st then (
+    to_publisher st h (
     if nat_lt index (length h.draft) then (
     if fits x.plan bytes
     then record { reply = Some (Done (current_version h)); standing = st; history = after_edit index bytes h }
     else refuses refusal.BadLength st h)
     else refuses refusal.BadIndex st h)
-    else refuses refusal.NotPublisher st h)
-    else refuses refusal.NotWelcome st h
 outcome_of_frame x h st (Append bytes) =
-    if is_welcome st then (
-    if is_publisher st then (
+    to_publisher st h (
     if fits x.plan bytes then (
     if is_layout (shape_at x.plan (length h.draft + 1))
     then record { reply = Some (Done (current_version h)); standing = st; history = after_append bytes h }
     else refuses refusal.Full st h)
     else refuses refusal.BadLength st h)
-    else refuses refusal.NotPublisher st h)
-    else refuses refusal.NotWelcome st h
 outcome_of_frame x h st Publish =
-    if is_welcome st then (
-    if is_publisher st then (
+    to_publisher st h (
     if h.marked then (
     if current_version h + 1 == 2 ^ 64 then refuses refusal.VersionsUsedUp st h
     else record { reply = Some (Done (current_version h + 1)); standing = st; history = published h })
     else refuses refusal.NothingToPublish st h)
-    else refuses refusal.NotPublisher st h)
-    else refuses refusal.NotWelcome st h
 outcome_of_frame x h st (ChangesAsk since) =
-    if is_wide_setting x then (
-    if is_welcome st then changes_asked x h st since (changes_since x.plan h since (most_changes x)) else refuses refusal.NotWelcome st h)
+    if is_wide_setting x then to_reader st h (changes_asked x h st since (changes_since x.plan h since (most_changes x)))
     else refuses refusal.BadFrame Closed h
 outcome_of_frame x h st Bye = record { reply = None; standing = Closed; history = h }
 outcome_of_frame x h st _ = refuses refusal.BadFrame Closed h
 
--- whether a part of a hint is there to be sent, or a query to be answered
-abbrev pub has_asked_part : Setting → History → Option Scheme → ℕ → ℕ → Bool
-has_asked_part x h None version part = false
-has_asked_part x h (Some scheme) version part = if version == current_version h then has_part x scheme h.current part else false
-
--- whether a query of these words is one to be answered
-abbrev pub has_asked_query : Setting → History → Option Scheme → ℕ → List ℕ → Bool
-has_asked_query x h None version words = false
-has_asked_query x h (Some scheme) version words =
-    if version == current_version h then length words == words_asked x scheme h.current else false
+-- whether a reply grants what a frame asks for, or says that its change was made: it is no
+-- greeting's, no refusal, and not the current version in reply to a frame that names another
+abbrev pub is_granted : Option Frame → Bool
+is_granted None = false
+is_granted (Some (Welcome profile width record_len groups count version dimension seed)) = false
+is_granted (Some (Stale version count)) = false
+is_granted (Some (Refused code)) = false
+is_granted (Some reply) = true
 
 -- whether every check is passed, and the reply or the change takes memory
 abbrev pub takes_memory : Setting → History → Standing → Frame → Bool
-takes_memory x h st (HintAsk scheme version part) =
-    if is_welcome st then has_asked_part x h (scheme_of_byte scheme) version part else false
-takes_memory x h st (DeltaAsk since) = is_welcome st
-takes_memory x h st (Query scheme version words) =
-    if is_welcome st then has_asked_query x h (scheme_of_byte scheme) version words else false
-takes_memory x h st (Edit index bytes) =
-    if is_welcome st then (
-    if is_publisher st then (if nat_lt index (length h.draft) then fits x.plan bytes else false) else false) else false
-takes_memory x h st (Append bytes) =
-    if is_welcome st then (
-    if is_publisher st then (if fits x.plan bytes then is_layout (shape_at x.plan (length h.draft + 1)) else false) else false) else false
-takes_memory x h st Publish =
-    if is_welcome st then (
-    if is_publisher st then (if h.marked then not (current_version h + 1 == 2 ^ 64) else false) else false) else false
-takes_memory x h st (ChangesAsk since) = if is_wide_setting x then is_welcome st else false
-takes_memory x h st _ = false
+takes_memory x h st f = is_granted (outcome_of_frame x h st f).reply
 
 -- there is room for so many bytes more
 abbrev pub HasRoom : ℕ → Vec ℕ Global → Type 0

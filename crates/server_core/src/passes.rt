@@ -9,7 +9,7 @@ use std::alloc::Global;
 const TOGETHER: usize = 4;
 
 /// How many queries wait at most: as many as may be begun beside another one.
-const MOST_WAITING: usize = 3;
+const MOST_WAITING: usize = TOGETHER - 1;
 
 /// A query of SimplePIR that waits.
 #[derive(Drop)]

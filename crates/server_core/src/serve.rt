@@ -111,6 +111,7 @@ fn serve_hint_ask<K: Kernel>(
 }
 
 /// Gives the rows of the SimplePIR hint that have changed since a version.
+#[tactic(auto, using(crate::proofs::Granted::delta_granted))]
 fn serve_delta_ask<K: Kernel>(
     alloc: Global,
     store: &Store<K>,
@@ -150,6 +151,7 @@ pub fn has_wide_frames<K: Kernel>(store: &Store<K>) -> bool
 
 /// Gives the records that have changed since a version, if the database is wide; no other stream
 /// has this frame. Answers the standing after it.
+#[tactic(auto, using(crate::proofs::Granted::changes_granted))]
 fn serve_changes_ask<K: Kernel>(
     store: &Store<K>,
     standing: Standing,
