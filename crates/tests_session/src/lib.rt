@@ -9,12 +9,6 @@
 #![tactic(auto)]
 
 #[cfg(test)]
-mod client;
-#[cfg(test)]
-mod engines;
-#[cfg(test)]
 mod folders;
 #[cfg(test)]
 mod hints;
-#[cfg(test)]
-mod server;

@@ -1,10 +1,10 @@
 //! Tests of the store.
 //!
 //! The gate proves a crate that has tests twice, once with them. The tests of `version_store` make
-//! public calls alone, so they stand here, above it. Those in `src` are proved over what these
-//! calls promise, and then run. The others are modules in `tests/long/tests_store`, which the gate
-//! runs alone, and which `tests/long/run --prove` proves.
+//! public calls alone, so they stand here, above it. One is proved over what these calls promise,
+//! and then run. The others are modules in `tests/long/tests_store`, which the gate runs alone, and
+//! which `tests/long/run --prove` proves.
 #![tactic(auto)]
 
 #[cfg(test)]
-mod store;
+mod refused_memory;

@@ -8,5 +8,3 @@
 
 #[cfg(test)]
 mod words;
-#[cfg(test)]
-mod world;

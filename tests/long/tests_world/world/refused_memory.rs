@@ -1,6 +1,9 @@
 //! Memory that is refused once to a world: the step that reports it has added no outcome, and no
 //! later step is made; a client that was refused by the server alone makes its calls again. With
-//! ample memory none is refused here; `tests/memory` refuses each request of this test in turn.
+//! ample memory none is refused here; `tests/memory/run --all` refuses each request of this test in
+//! turn.
+//!
+//! Proved by `tests/long/run --prove`.
 
 use super::*;
 use client_core::{Event, Scheme};

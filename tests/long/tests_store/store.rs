@@ -1,6 +1,6 @@
-//! What the tests of the store have in common. All but those of refused memory are in tests/long.
-
-mod refused_memory;
+//! What the tests of the store have in common.
+//!
+//! Proved by `tests/long/run --prove`.
 
 use digit_pack::is_wide;
 use lane_kernels::Lanes;

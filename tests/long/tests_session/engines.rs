@@ -1,5 +1,6 @@
-//! What the tests of both engines have in common. All but those of refused memory are in
-//! tests/long.
+//! What the tests of both engines have in common.
+//!
+//! Proved by `tests/long/run --prove`.
 
 use blocking_io::{ConverseFault, Ending, ServeFault, converse, serve};
 use client_core::{CallFault, ClientCore, Event};
@@ -12,8 +13,6 @@ use std::process::Abort;
 use std::test::Fail;
 use test_support::{RECORDS, TWO_RECORDS};
 use version_store::Store;
-
-mod refused_memory;
 
 // A greeting but its key, and what it is answered but the seed of zeros.
 const GREETING: &[u8] = &[0x22, 0, 0, 0, 0x02, 2, 0];

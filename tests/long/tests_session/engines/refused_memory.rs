@@ -1,6 +1,8 @@
 //! Memory that is refused once to an engine: the call that reports it has written whole replies
 //! alone, and a session or a conversation that begins anew goes to its end. With ample memory none
-//! is refused here; `tests/memory` refuses each request of these tests in turn.
+//! is refused here; `tests/memory/run --all` refuses each request of these tests in turn.
+//!
+//! Proved by `tests/long/run --prove`.
 
 use super::*;
 use test_support::Output;

@@ -1,10 +1,11 @@
 //! Memory that is refused once: the call that reports it has changed nothing, and is done when it
-//! is made again. With ample memory no call here is refused. `scripts/refuse_memory` refuses each
-//! request of this test in turn, and it passes each time.
+//! is made again. With ample memory no call here is refused. `tests/memory/run --all` refuses each
+//! request of these tests in turn, and they pass each time.
+//!
+//! Proved by `tests/long/run --prove`.
 
 use super::*;
 use std::alloc::AllocError;
-use version_store::{MigrateError, migrate};
 
 // The bytes of seven records of three; some of them are others where `is_changed`.
 fn seven_times_three(alloc: Global, is_changed: bool) -> Result<Vec<u8>, AllocError> {
@@ -309,45 +310,4 @@ fn a_refused_growth_of_slots_is_made_later(rt: HostRuntime) -> Result<(), Fail> 
             ..growth
         },
     )
-}
-
-// A file of the store, so that none has to be written here.
-const FILE: [u8; 125] = [
-    0x50, 0x49, 0x52, 0x53, 0x4e, 0x41, 0x50, 0x31, 0x08, 0x01, 0x00, 0x01, 0x00, 0x02, 0x00, 0x00,
-    0x00, 0x01, 0x00, 0x01, 0x00, 0x00, 0x00, 0x00, 0x00, 0x00, 0x00, 0x00, 0x00, 0x00, 0x00, 0x00,
-    0x00, 0x00, 0x00, 0x00, 0x00, 0x00, 0x00, 0x00, 0x00, 0x00, 0x00, 0x00, 0x00, 0x00, 0x00, 0x00,
-    0x00, 0x00, 0x00, 0x00, 0x00, 0x00, 0x00, 0x00, 0x00, 0x00, 0x00, 0x72, 0xcd, 0x6e, 0x84, 0x22,
-    0xc4, 0x07, 0xfb, 0x6d, 0x09, 0x86, 0x90, 0xf1, 0x13, 0x0b, 0x7d, 0xed, 0x7e, 0xc2, 0xf7, 0xf5,
-    0xe1, 0xd3, 0x0b, 0xd9, 0xd5, 0x21, 0xf0, 0x15, 0x36, 0x37, 0x93, 0x0a, 0xc8, 0x2a, 0xb8, 0xbf,
-    0x5d, 0x34, 0x12, 0x4c, 0x9e, 0x7e, 0xaf, 0x2d, 0xd4, 0xcb, 0x4f, 0x65, 0x45, 0xc2, 0xbf, 0x0f,
-    0x5c, 0x90, 0xe0, 0xae, 0xcf, 0x91, 0xa3, 0xf1, 0x46, 0xac, 0x72, 0xd2, 0xcd,
-];
-
-// The file's records in slots; the fault alone where memory was refused to the move, and not to the
-// reading.
-fn moved(alloc: Global) -> Result<Vec<u8>, Option<MigrateError>> {
-    let mut left = &FILE[..];
-    let Ok(snapshot) = read_snapshot(alloc, &mut left) else {
-        return Err(None);
-    };
-    match migrate(alloc, &snapshot) {
-        Ok(moved) => Ok(moved.records),
-        Err(fault) => Err(Some(fault)),
-    }
-}
-
-#[test]
-fn a_refused_migration_is_made_later(rt: HostRuntime) {
-    let slots = match moved(rt.alloc()) {
-        Ok(slots) => Ok(slots),
-        Err(fault) => {
-            assert_ne!(rt; fault, Some(MigrateError::TooWide));
-            assert_ne!(rt; fault, Some(MigrateError::NotFormOne));
-            moved(rt.alloc())
-        }
-    };
-    match slots {
-        Ok(slots) => assert_eq!(rt; slots.as_slice(), &[1, 0, 0x0a, 1, 0, 0xc8][..]),
-        Err(_) => panic!(rt; "memory was refused twice"),
-    }
 }

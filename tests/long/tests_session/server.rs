@@ -1,4 +1,6 @@
-//! What the tests of the server have in common. All but those of refused memory are in tests/long.
+//! What the tests of the server have in common.
+//!
+//! Proved by `tests/long/run --prove`.
 
 use lane_kernels::Lanes;
 use matrix_u32::{Kernel, Plain};
@@ -8,8 +10,6 @@ use std::process::Abort;
 use std::test::Fail;
 use test_support::{RECORDS, TWO_RECORDS};
 use version_store::{Header, Store};
-
-mod refused_memory;
 
 // A greeting, but its key.
 const GREETING: &[u8] = &[0x22, 0, 0, 0, 0x02, 1, 0];

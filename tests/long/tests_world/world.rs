@@ -1,4 +1,6 @@
-//! What the tests of the world have in common. All but those of refused memory are in tests/long.
+//! What the tests of the world have in common.
+//!
+//! Proved by `tests/long/run --prove`.
 
 use lane_kernels::Lanes;
 use matrix_u32::{Kernel, Plain};
@@ -8,8 +10,6 @@ use std::process::Abort;
 use std::test::Fail;
 use test_support::TWO_RECORDS;
 use version_store::{Header, OpenError, Snapshot};
-
-mod refused_memory;
 
 /// More bytes than ever wait.
 const ALL: usize = 1_000_000;

@@ -1,7 +1,9 @@
 //! Memory that is refused once to a server: a reply that finds none is Refused 12, and the session
 //! goes on; where there is no room for that either, the session alone is closed. A frame that was
 //! refused has changed nothing, and is served when it comes again. With ample memory none is
-//! refused here; `tests/memory` refuses each request of this test in turn.
+//! refused here; `tests/memory/run --all` refuses each request of this test in turn.
+//!
+//! Proved by `tests/long/run --prove`.
 
 use super::*;
 

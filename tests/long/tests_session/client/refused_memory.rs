@@ -1,6 +1,8 @@
 //! Memory that is refused once: a call that reports it leaves the client as it says, and is made
-//! when it is tried again. With ample memory no call here is refused. `tests/memory` refuses each
-//! request of these tests in turn, and they pass each time.
+//! when it is tried again. With ample memory no call here is refused. `tests/memory/run --all`
+//! refuses each request of these tests in turn, and they pass each time.
+//!
+//! Proved by `tests/long/run --prove`.
 
 use super::*;
 use std::alloc::AllocError;

@@ -1,5 +1,6 @@
-//! A client against replies that are made here, frame by frame. All tests but those of refused
-//! memory are in tests/long.
+//! A client against replies that are made here, frame by frame.
+//!
+//! Proved by `tests/long/run --prove`.
 
 use client_core::{CallFault, ClientCore, ClientFault, Event, Fed, Scheme};
 use digit_pack::Layout;
@@ -9,8 +10,6 @@ use matrix_u32::{Kernel, Plain};
 use std::alloc::Global;
 use std::process::Abort;
 use std::test::Fail;
-
-mod refused_memory;
 
 const ZEROS: [u8; 32] = [0; 32];
 
