@@ -172,11 +172,11 @@ query_asked x h st (Some scheme) version words =
     else refuses refusal.BadQueryLength st h)
     else stale st h
 
--- what a frame leads to whose sender has to have been greeted
+-- what a frame leads to whose sender has to have been greeted: this, or a refusal
 abbrev pub to_reader : Standing → History → Outcome → Outcome
 to_reader st h o = if is_welcome st then o else refuses refusal.NotWelcome st h
 
--- and one whose sender has to be the publisher
+-- what a frame leads to whose sender has to be the publisher: this, or a refusal
 abbrev pub to_publisher : Standing → History → Outcome → Outcome
 to_publisher st h o = to_reader st h (if is_publisher st then o else refuses refusal.NotPublisher st h)
 
