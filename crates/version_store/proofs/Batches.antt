@@ -1,18 +1,20 @@
 -- Records that are written after others, group by group.
-use Rattle.std.proofs.Common.{◌≡◌, ◌∙◌, ℕ, ◌+◌, ◌-◌, ◌*◌, ◌/◌, ◌%◌, ◌<◌, ◌≤◌, List, [], ◌++◌, length, take, drop, refl, All, ◌^◌, ap, sym, subst, arith, inl, inr}
+use Rattle.std.proofs.Common.{◌≡◌, ◌∙◌, ℕ, ◌+◌, ◌-◌, ◌*◌, ◌/◌, ◌%◌, ◌<◌, ◌≤◌, List, [], ◌++◌, length, take, drop, refl, All, ◌^◌, if◌then◌else◌, nat_lt, ap, sym, subst, arith, inl, inr}
 use Rattle.std.proofs.lemmas.Bool.{cases_lt}
+use Rattle.std.proofs.lemmas.Bool.Decides.{nat_tests}
 use Rattle.std.proofs.lemmas.List.{get_or_append_left, get_or-append_right, get_or_past, length-append, length-drop, take-append-le, drop-append-le}
 use Rattle.std.proofs.Math.Seq.{drop-append-add}
-use Rattle.std.proofs.lemmas.Nat.{le-div, div_below, row_fits}
-use Rattle.std.proofs.Math.Nat.{div-mul-le_self, mod-lt, mul-le-mul_right, mul-div_cancel}
+use Rattle.std.proofs.lemmas.Nat.{le-div, row_fits, div-mul-add, mod-mul-add}
+use Rattle.std.proofs.Math.Nat.{div-mul-le_self, mod-lt, mul-le-mul_right, mul-div_cancel, add-mul-mod_self_right, add-mul-div_right}
 use Rattle.std.proofs.lemmas.List.Elements.{All-append}
 use Rattle.matrix_u32.specs.Matrix.{WordMatrix}
-use Rattle.matrix_u32.proofs.Products.{at-list_of_any}
+use Rattle.matrix_u32.proofs.Products.{at-list_of_any, length-list_of}
 use Rattle.digit_pack.specs.Columns.{WritesColumn}
-use Rattle.digit_pack.specs.Layout.{Shape, IsLayout, digit_cols, digit_matrix, first_row, column_of, record_at, record_digits, records_in}
+use Rattle.digit_pack.specs.Layout.{Shape, IsLayout, digit_cols, digits_per_record, digit_matrix, first_row, column_of, record_at, record_digits, records_in}
+use Rattle.digit_pack.proofs.ColumnLemmas.{written_as}
 use Rattle.digit_pack.proofs.RecordLemmas.{shape_of_layout, record_written}
-use Rattle.digit_pack.proofs.Turns.{records_before, turn_of, blank_at, written_at, past_blank, same_digits, turn_is, others_as_before, column_inside, few_places}
-use Rattle.version_store.specs.KeptRecords.{IsKept, bytes_in_digits, counted}
+use Rattle.digit_pack.proofs.Turns.{records_before, turn_of, blank_at, written_at, past_blank, same_digits, turn_is, others_as_before, column_inside}
+use Rattle.version_store.specs.KeptRecords.{IsKept, bytes_in_digits, counted, records_of_groups}
 use Rattle.version_store.proofs.KeptBytes.{below_count}
 use Rattle.version_store.proofs.KeptDigits.{is_kept, bytes_back}
 use Rattle.version_store.proofs.Versions.{long_records}
@@ -39,6 +41,12 @@ turn_inside l k h inside =
     let col : k / l.groups < digit_cols l = column_inside l k h inside in
     let last : (k % l.groups + 1) * digit_cols l ≤ l.groups * digit_cols l = mul-le-mul_right (digit_cols l) (omega (arith, group)) in
     omega (arith, last, col)
+
+first_of : (k n : ℕ) (v d : List ℕ) → k < n → (if nat_lt k n then v else d) ≡ v
+first_of k n v d l = grind (arith, nat_tests)
+
+second_of : (k n : ℕ) (v d : List ℕ) → n ≤ k → (if nat_lt k n then v else d) ≡ d
+second_of k n v d l = grind (arith, nat_tests)
 
 -- the records xs, and those of k further ones, ys, that are written before turn n; the others are
 -- blank
@@ -114,23 +122,80 @@ module _ (l : Shape) (k : ℕ) (xs ys : List (List ℕ)) (layout : IsLayout l) (
         | inr out ↦ past_blank (counted l k) ys n q out ∙ sym (get_or_past ys q [] (omega (arith, out, count)))
       ]
 
--- a turn is there only if a record is
-pub some_record : (l : Shape) (k n : ℕ) → 0 < l.groups → n < l.groups * digit_cols (counted l k) → 1 ≤ k
-some_record l k n some turn = elim (cases_lt 0 k) [
-  | inl lt ↦ lt
-  | inr none ↦
-      let column : digit_cols (counted l k) < 1 = div_below (k + l.groups - 1) l.groups 1 some (omega (arith, none, some)) in
-      let no_column : digit_cols (counted l k) ≡ 0 = omega (arith, column) in
-      absurd (omega (arith, turn, ap (λ x. l.groups * x) no_column))
-]
+  abbrev cols : ℕ
+  cols = digit_cols (counted l k)
 
--- the number of a turn's record fits
-pub few_in_batch : (l : Shape) (k n g : ℕ) → IsLayout l → k ≤ l.count → g ≡ l.groups → n < g * ((k + g - 1) / g) →
-    n % ((k + g - 1) / g) * g + n / ((k + g - 1) / g) ≤ 1073774592
-few_in_batch l k n g layout few same turn =
-    let there : n < l.groups * digit_cols (counted l k) = subst (λ x. n < x * ((k + x - 1) / x)) same turn in
-    subst (λ x. n % ((k + x - 1) / x) * x + n / ((k + x - 1) / x) ≤ 1073774592) (sym same)
-    (few_places (counted l k) n (fewer_records l k layout (some_record l k n layout.groups.0 there) few) there)
+  -- the records of the first groups are those of the turns before the next group's first
+  pub groups_as_turns : (g : ℕ) → digit_matrix l (xs ++ records_of_groups (counted l k) ys g) ≡ digit_matrix l (so_far (g * digit_cols (counted l k)))
+  groups_as_turns g = same_digits l (xs ++ records_of_groups (counted l k) ys g) (so_far (g * cols)) (λ j. elim (cases_lt j (length xs)) [
+    | inl lt ↦ get_or_append_left xs (records_of_groups (counted l k) ys g) [] j lt ∙ sym (before (g * cols) j lt)
+    | inr le ↦
+        get_or-append_right xs (records_of_groups (counted l k) ys g) (length xs) j [] refl le
+        ∙ alike (j - length xs)
+        ∙ sym (after (g * cols) j le)
+  ])
+    where
+      at : (q : ℕ) → q < k → record_at (records_of_groups (counted l k) ys g) q ≡ (if nat_lt (q % l.groups) g then record_at ys q else [])
+      at q inside = at-list_of_any k (λ i. if nat_lt (i % l.groups) g then record_at ys i else []) q [] inside
+
+      alike : (q : ℕ) → record_at (records_of_groups (counted l k) ys g) q ≡ record_at (records_before (counted l k) ys (g * cols)) q
+      alike q = elim (cases_lt q k) [
+        | inl inside ↦ elim (cases_lt (q % l.groups) g) [
+          | inl low ↦
+              let ends : (q % l.groups + 1) * cols ≤ g * cols = mul-le-mul_right cols (omega (arith, low)) in
+              at q inside
+              ∙ first_of (q % l.groups) g (record_at ys q) [] low
+              ∙ sym (written_at (counted l k) ys (g * cols) q inside (omega (arith, ends, column_inside (counted l k) q (own q inside) inside)))
+          | inr high ↦
+              let begins : g * cols ≤ q % l.groups * cols = mul-le-mul_right cols high in
+              at q inside
+              ∙ second_of (q % l.groups) g (record_at ys q) [] high
+              ∙ sym (blank_at (counted l k) ys (g * cols) q (omega (arith, begins)))
+        ]
+        | inr out ↦
+            get_or_past (records_of_groups (counted l k) ys g) q []
+            (omega (arith, out, length-list_of k (λ i. if nat_lt (i % l.groups) g then record_at ys i else [])))
+            ∙ sym (past_blank (counted l k) ys (g * cols) q out)
+      ]
+
+  -- a group's turn without a record
+  pub none_in_group : (g n : ℕ) → n < digit_cols (counted l k) → k ≤ n * l.groups + g →
+      digit_matrix l (so_far (g * digit_cols (counted l k) + n)) ≡ digit_matrix l (so_far (g * digit_cols (counted l k) + (n + 1)))
+  none_in_group g n lt past =
+      let col : (g * cols + n) % cols ≡ n = mod-mul-add g cols n lt in
+      let group : (g * cols + n) / cols ≡ g = div-mul-add g cols n lt in
+      none_more (g * cols + n) (omega (arith, past, group, ap (λ x. x * l.groups) col)) ∙ ap (λ m. digit_matrix l (so_far m)) (omega arith)
+
+  -- a group's turn with one
+  pub one_in_group : (g n : ℕ) (new : WordMatrix) → g < l.groups → n < digit_cols (counted l k) → n * l.groups + g < k →
+      WritesColumn (digit_matrix l (so_far (g * digit_cols (counted l k) + n))) new ((length xs + g) % l.groups * digits_per_record l)
+      ((length xs + g) / l.groups + n) (record_digits l (record_at ys (n * l.groups + g))) →
+      new ≡ digit_matrix l (so_far (g * digit_cols (counted l k) + (n + 1)))
+  one_in_group g n new inside lt there w =
+      let col : (g * cols + n) % cols ≡ n = mod-mul-add g cols n lt in
+      let group : (g * cols + n) / cols ≡ g = div-mul-add g cols n lt in
+      let last : (g + 1) * cols ≤ l.groups * cols = mul-le-mul_right cols (omega (arith, inside)) in
+      let from : length xs + (n * l.groups + g) ≡ length xs + g + n * l.groups = omega arith in
+      let row_is : (length xs + g) % l.groups ≡ (length xs + (n * l.groups + g)) % l.groups =
+      sym (ap (λ x. x % l.groups) from ∙ add-mul-mod_self_right (length xs + g) n l.groups) in
+      let col_is : (length xs + g) / l.groups + n ≡ (length xs + (n * l.groups + g)) / l.groups =
+      sym (ap (λ x. x / l.groups) from ∙ add-mul-div_right (length xs + g) n layout.groups.0) in
+      one_more (g * cols + n) (n * l.groups + g) new (omega (arith, group, ap (λ x. x * l.groups) col)) there (omega (arith, last, lt))
+      (written_as _ _ new _ _ _ _ _ _ refl (ap (λ x. x * digits_per_record l) row_is) col_is refl w)
+      ∙ ap (λ m. digit_matrix l (so_far m)) (omega arith)
+
+-- a record's column, found by that of the first one of its group
+pub group_column : (l : Shape) (first k g n m : ℕ) → IsLayout l → m ≡ l.groups → first + k ≤ l.count → n * l.groups + g < k →
+    (first + g) / m + n < digit_cols l
+group_column l first k g n m layout same few there =
+    let from : first + (n * l.groups + g) ≡ first + g + n * l.groups = omega arith in
+    let col : (first + (n * l.groups + g)) / l.groups ≡ (first + g) / l.groups + n =
+    ap (λ x. x / l.groups) from ∙ add-mul-div_right (first + g) n layout.groups.0 in
+    omega (arith, ap (λ x. (first + g) / x) same, col, column_inside l (first + (n * l.groups + g)) layout (omega (arith, few, there)))
+
+-- how many columns so many records have, by the groups' number
+pub columns_are : (k g h : ℕ) → g ≡ h → (k + g - 1) / g ≡ (k + h - 1) / h
+columns_are k g h e = ap (λ x. (k + x - 1) / x) e
 
 -- the bytes of record i end among those of all
 pub bytes_end : (i k r len total : ℕ) → i < k → r ≡ len → total ≡ k * len → i * r + r ≤ total

@@ -8,7 +8,7 @@ use Rattle.std.proofs.Math.ListN.{set}
 use Rattle.std.specs.Prelude.{Option, Some, None, MatchOption}
 use Rattle.std.specs.declared.vec.Vec.{Vec}
 use Rattle.std.specs.declared.alloc.Global.{Global}
-use Rattle.std.specs.BTreeMap.{BTreeMap, Updates, btree_map_len, is_at}
+use Rattle.std.specs.BTreeMap.{BTreeMap, Updates, is_at}
 use Rattle.std.specs.Ordering.{nat_cmp}
 use Rattle.matrix_u32.specs.Sum.{list_of}
 use Rattle.matrix_u32.proofs.Products.{same-list_of}
@@ -88,14 +88,6 @@ fit-updated e m n k w u new old i =
 pub some_of_change : (changes : Changes) (k : ℕ) (v : Vec ℕ Global) → change_at changes k ≡ Some v → is_some_change changes ≡ true
 some_of_change [] k v e = let no : change_at [] k ≡ Some v = e in cc
 some_of_change (c ∷ cs) k v e = refl
-
-no_changes : (changes : Changes) → is_some_change changes ≡ false → length changes ≡ 0
-no_changes [] e = refl
-no_changes (c ∷ cs) e = cc
-
--- a map that isn't empty has a change
-pub some_held : (m : BTreeMap ℕ (Vec ℕ Global)) → (btree_map_len m ≡ 0 → false ≡ true) → is_some_change m.entries ≡ false → ⊥
-some_held m none e = let no : false ≡ true = none (no_changes m.entries e) in cc
 
 -- a map is not empty after an insertion
 pub some_after_insert : (m n : BTreeMap ℕ (Vec ℕ Global)) (k : ℕ) (v : Vec ℕ Global) → Updates nat_cmp m n k (Some v) → is_some_change n.entries ≡ true

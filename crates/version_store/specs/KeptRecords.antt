@@ -1,8 +1,9 @@
 -- Records that are kept in digits alone.
-use Rattle.std.specs.Prelude.{◌≡◌, ◌≤◌, ◌<◌, ◌+◌, ◌*◌, ◌^◌, ℕ, List, All, length}
+use Rattle.std.specs.Prelude.{◌≡◌, ◌≤◌, ◌<◌, ◌+◌, ◌*◌, ◌%◌, ◌^◌, ℕ, List, [], All, length, if◌then◌else◌, nat_lt}
 use Rattle.std.specs.List.{flat_map}
 use Rattle.matrix_u32.specs.Matrix.{WordMatrix}
-use Rattle.digit_pack.specs.Layout.{Shape, IsLayout, digit_matrix, records_in}
+use Rattle.matrix_u32.specs.Sum.{list_of}
+use Rattle.digit_pack.specs.Layout.{Shape, IsLayout, digit_matrix, record_at, records_in}
 use Rattle.digit_pack.specs.Held.{records_in_digits}
 
 -- the sizes of records, and the bytes of those that there are, one after another
@@ -13,6 +14,10 @@ pub record KeptRecords : Type 0 where
 -- sizes for another number of records
 abbrev pub counted : Shape → ℕ → Shape
 counted l n = record l { count = n }
+
+-- those of some records that stand in the first g places of their columns; the others are blank
+abbrev pub records_of_groups : Shape → List (List ℕ) → ℕ → List (List ℕ)
+records_of_groups l xs g = list_of l.count (λ k. if nat_lt (k % l.groups) g then record_at xs k else [])
 
 -- the bytes of the first n records that a digit matrix holds, one after another
 abbrev pub bytes_in_digits : Shape → ℕ → WordMatrix → List ℕ

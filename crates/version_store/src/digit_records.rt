@@ -4,8 +4,8 @@ ghost use Rattle.std.specs.Prelude.{◌≡◌, ◌≤◌, ◌<◌, ◌^◌, ◌+
 ghost use Rattle.std.specs.Prelude.{IfOk, OnOk, OnErr, slice_set};
 ghost use Rattle.digit_pack.specs.Columns.{WritesColumn};
 ghost use Rattle.digit_pack.specs.Layout.{digit_rows, digit_cols, digit_matrix, first_row};
-ghost use Rattle.digit_pack.specs.Layout.{column_of, record_digits, records_in};
-ghost use Rattle.version_store.specs.KeptRecords.{counted};
+ghost use Rattle.digit_pack.specs.Layout.{column_of, digits_per_record, record_digits, records_in};
+ghost use Rattle.version_store.specs.KeptRecords.{counted, records_of_groups};
 
 use crate::first_layer::Digits;
 use digit_pack::{DigitStore, Layout, copy_record, digit_buffer, digits_of_records, pack};
@@ -176,15 +176,51 @@ fn write_records(layout: &Layout, digits: &mut Digits, first: usize, count: usiz
         digits.old ≡ digit_matrix layout.now xs → digits.new ≡
         digit_matrix layout.now (xs ++ records_in (counted layout.now count) bytes.now) }
 {
+    let mut room = digit_buffer();
+    let packed = &mut room[..layout.digits_per_record()];
+    for group in 0..layout.groups() {
+        write_group(layout, digits, first, group, count, bytes, packed);
+    }
+}
+
+// Writes the digits of one group of those records, in one column after another, `packed` being room
+// for those of one record. Where the first of them stands is found by division, and no other's, so
+// that records of one byte cost no more than to write them.
+fn write_group(
+    layout: &Layout,
+    digits: &mut Digits,
+    first: usize,
+    group: usize,
+    count: usize,
+    bytes: &[u8],
+    packed: &mut [u32],
+)
+    requires group { group < layout.now.groups }
+    requires inside { first + count ≤ layout.now.count }
+    requires len { length bytes.now ≡ count * layout.now.record_len }
+    requires rows { digits.old.rows ≡ digit_rows layout.now }
+    requires cols { digits.old.cols ≡ digit_cols layout.now }
+    requires room { length packed.old ≡ digits_per_record layout.now }
+    ensures rows { digits.new.rows ≡ digit_rows layout.now }
+    ensures cols { digits.new.cols ≡ digit_cols layout.now }
+    ensures room { length packed.new ≡ length packed.old }
+    ensures written { (xs : List (List ℕ)) → length xs ≡ first → digits.old ≡ digit_matrix
+        layout.now (xs ++ records_of_groups (counted layout.now count)
+        (records_in (counted layout.now count) bytes.now) group) → digits.new ≡ digit_matrix
+        layout.now (xs ++ records_of_groups (counted layout.now count)
+        (records_in (counted layout.now count) bytes.now) (group + 1)) }
+{
     let groups = layout.groups();
     let len = layout.record_len();
-    let cols = (count + groups - 1) / groups;
-    for n in 0..groups * cols {
-        let i = n % cols * groups + n / cols;
+    let row = (first + group) % groups * layout.digits_per_record();
+    let col = (first + group) / groups;
+    for n in 0..(count + groups - 1) / groups {
+        let i = n * groups + group;
         if i >= count {
             continue;
         }
-        write_place(layout, digits, first + i, &bytes[i * len..i * len + len]);
+        let record = &bytes[i * len..i * len + len];
+        write_column(layout, digits, row, col + n, record, packed);
     }
 }
 
@@ -200,6 +236,27 @@ fn write_place(layout: &Layout, digits: &mut Digits, i: usize, bytes: &[u8])
     let mut room = digit_buffer();
     let packed = &mut room[..layout.digits_per_record()];
     let (first, col) = layout.place(i);
+    write_column(layout, digits, first, col, bytes, packed);
+}
+
+// Writes the digits of a record's bytes into a column, from row `first` down. What `packed`, room
+// for them, holds afterwards is not said.
+fn write_column(
+    layout: &Layout,
+    digits: &mut Digits,
+    first: usize,
+    col: usize,
+    bytes: &[u8],
+    packed: &mut [u32],
+)
+    requires len { length bytes.now ≡ layout.now.record_len }
+    requires rows { first + digits_per_record layout.now ≤ digits.old.rows }
+    requires col { col < digits.old.cols }
+    requires room { length packed.old ≡ digits_per_record layout.now }
+    ensures written { WritesColumn digits.old digits.new first col
+        (record_digits layout.now bytes.now) }
+    ensures room { length packed.new ≡ length packed.old }
+{
     pack(layout, bytes, packed);
     digits.swap_digits(first, col, packed);
 }

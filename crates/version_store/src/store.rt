@@ -692,7 +692,7 @@ impl<K: Kernel> Store<K> {
             (self.old.marked ≡ true) × (self.old.version + 1 ≡ 2 ^ 64) }
         ensures refused { OnErr result (self.new ≡ self.old) }
     {
-        if self.changes.is_empty() {
+        if !self.is_marked() {
             return Err(PublishError::NothingToPublish);
         }
         if self.version() == u64::MAX {

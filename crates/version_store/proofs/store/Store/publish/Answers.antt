@@ -1,4 +1,4 @@
-use Rattle.std.proofs.Common.{ap, ◌∙◌, sym, arith, ◌≡◌, ◌+◌, ℕ, List, [], ◌∷◌, length, take, subst, false, IfErr}
+use Rattle.std.proofs.Common.{ap, ◌∙◌, sym, arith, ◌≡◌, ◌+◌, ℕ, List, [], ◌∷◌, length, take, subst, true, false}
 use Rattle.std.specs.Prelude.{Result, Err}
 use Rattle.std.proofs.lemmas.Result.{err_from_is_err_and}
 use Rattle.pir_schemes.specs.Plans.{digits_at}
@@ -12,7 +12,7 @@ use Rattle.version_store.specs.Histories.{StoreState, held_published}
 use Rattle.record_log.specs.OldRecords.{OldRecord}
 use Rattle.record_log.specs.Logs.{KeptLog}
 use Rattle.version_store.specs.OldRecords.{IsOldsLog, draft_olds, olds_replaced, with_newest, with_olds}
-use Rattle.version_store.proofs.DraftLemmas.{draft-none, some_held}
+use Rattle.version_store.proofs.DraftLemmas.{draft-none}
 use Rattle.version_store.proofs.Grown.{length-draft, grown-same}
 use Rattle.version_store.proofs.HistoryLemmas.{publish_stands}
 use Rattle.version_store.proofs.OldsKept.{log_after, newest_fits, newest_kept}
@@ -121,12 +121,6 @@ keep_olds-requires g c =
 pub returns-clause-history : goal.returns-clause-history
 returns-clause-history g c = publish_stands c.args.self.now _ (returns-clause-done g c)
 
--- a change is there, since the map isn't empty
-pub returns-clause-nothing : goal.returns-clause-nothing
-returns-clause-nothing g c =
-    let marked : c.args.self.now.marked ≡ is_some_change c.self.inside.changes.entries = sym (ap (λ (s : StoreState). s.marked) c.self.view_is) in
-    (λ e. absurd (subst (λ r. IfErr r (λ _. ⊥)) e tt), λ m. absurd (some_held c.self.inside.changes c.if-is_empty.ensures.1 (sym marked ∙ m)))
-
 -- memory that is refused is not the other cause
 not_nothing : (r : Result ℕ PublishError) (fault : PublishError) → r ≡ Err fault → fault ≡ Memory → r ≡ Err NothingToPublish → ⊥
 not_nothing r fault is memory other =
@@ -134,10 +128,9 @@ not_nothing r fault is memory other =
 
 pub returns-in_err-grow-clause-nothing : goal.returns-in_err-grow-clause-nothing
 returns-in_err-grow-clause-nothing g c =
-    let marked : c.args.self.now.marked ≡ is_some_change c.self.inside.changes.entries = sym (ap (λ (s : StoreState). s.marked) c.self.view_is) in
     let p = err_from_is_err_and c.from_residual-in_err-grow.result c.from_residual-in_err-grow.ensures.1 in (
       λ e. absurd (not_nothing c.from_residual-in_err-grow.result p.0 p.1 p.2 e),
-      λ m. absurd (some_held c.self.inside.changes c.if-is_empty.ensures.1 (sym marked ∙ m)),
+      λ m. let no : true ≡ false = sym c.if-not-is_marked.false ∙ c.is_marked.ensures ∙ m in absurd cc,
     )
 
 pub apply-requires-clause-fit : goal.apply-requires-clause-fit
