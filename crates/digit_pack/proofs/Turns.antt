@@ -23,10 +23,11 @@ turn_of l k = k % l.groups * digit_cols l + k / l.groups
 abbrev pub records_before : Shape → List (List ℕ) → ℕ → List (List ℕ)
 records_before l xs n = list_of l.count (λ k. if nat_lt (turn_of l k) n then record_at xs k else [])
 
-taken : (k n : ℕ) (v d : List ℕ) → k < n → (if nat_lt k n then v else d) ≡ v
+-- before its turn is past a record is written, and after it the place is blank
+pub taken : (k n : ℕ) (v d : List ℕ) → k < n → (if nat_lt k n then v else d) ≡ v
 taken k n v d l = grind (arith, nat_tests)
 
-left : (k n : ℕ) (v d : List ℕ) → n ≤ k → (if nat_lt k n then v else d) ≡ d
+pub left : (k n : ℕ) (v d : List ℕ) → n ≤ k → (if nat_lt k n then v else d) ≡ d
 left k n v d l = grind (arith, nat_tests)
 
 pub written_at : (l : Shape) (xs : List (List ℕ)) (n k : ℕ) → k < l.count → turn_of l k < n → record_at (records_before l xs n) k ≡ record_at xs k
