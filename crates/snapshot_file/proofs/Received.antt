@@ -70,3 +70,10 @@ slots_more h n taken s long size =
     by : (b x y z : Bool) → x && y ≡ z → cond b x true && cond b y true ≡ cond b z true
     by true x y z e = e
     by false x y z e = refl
+
+-- in a form without slots none is judged
+pub none_judged : (h : Header) (m n : ℕ) (some all : List ℕ) → is_slotted h.form ≡ false → has_slots (with_count m h) some ≡ has_slots (with_count n h) all
+unfolding has_slots
+none_judged h m n some all form =
+    ap (λ b. if b then list_all is_slot (records_in (shape_of (with_count m h)) some) else true) form
+    ∙ sym (ap (λ b. if b then list_all is_slot (records_in (shape_of (with_count n h)) all) else true) form)

@@ -1,13 +1,13 @@
-//! The records of a snapshot, read one by one into what keeps them: their bytes are nowhere as a
+//! The records of a snapshot, read piece by piece into what keeps them: their bytes are nowhere as a
 //! whole.
 
-ghost use Rattle.std.specs.Prelude.{◌≡◌, ◌≤◌, ◌<◌, ◌*◌, ◌+◌, ◌^◌, ◌++◌, [], ℕ, List, length, true};
-ghost use Rattle.std.specs.Prelude.{if◌then◌else◌, OnOk, IfErr, IfOk};
+ghost use Rattle.std.specs.Prelude.{◌≡◌, ◌≤◌, ◌<◌, ◌*◌, ◌+◌, ◌^◌, ◌++◌, [], ℕ, List, length};
+ghost use Rattle.std.specs.Prelude.{OnOk, IfErr, IfOk};
 ghost use Rattle.std.specs.Io.KnownBytes.{Consumes, IsAtEnd};
 ghost use Rattle.sha2.specs.Sha256.{sha256};
 ghost use Rattle.sha2.specs.Hashers.{Holds256};
 ghost use Rattle.digit_pack.specs.Layout.{Shape};
-ghost use Rattle.digit_pack.specs.Slots.{is_slotted, is_slot};
+ghost use Rattle.digit_pack.specs.Slots.{is_slot};
 ghost use Rattle.snapshot_file.specs.Snapshots.{header_bytes, hashed_bytes, shape_of, with_count};
 ghost use Rattle.snapshot_file.specs.Snapshots.{has_slots, IsHeader, IsAccepted, IsSnapshot};
 ghost use Rattle.snapshot_file.specs.Verdicts.{EndsBelow, StopsReadingAt};
@@ -15,7 +15,6 @@ ghost use Rattle.snapshot_file.specs.Verdicts.{EndsBelow, StopsReadingAt};
 use crate::header::{DIGEST_LEN, header_bytes};
 use crate::reading::{fill, read_array, read_end};
 use crate::snapshot::{Header, SnapshotFault};
-use crate::streaming::record_buffer;
 use digit_pack::{is_slotted, read_slot};
 use sha2::{Digest, Sha256};
 use std::alloc::Global;
@@ -29,18 +28,18 @@ pub trait RecordSink: Sized + Drop {
     /// The sizes of the records, and how many there is room for.
     ghost shape: { Self → Shape };
 
-    /// Takes the next record. It takes no memory.
-    fn take_record(&mut self, bytes: &[u8])
-        requires room { length (taken self.old) + (shape self.old).record_len
+    /// Takes further records, which stand one after another in `bytes`. It takes no memory.
+    fn take_records(&mut self, bytes: &[u8])
+        requires whole { (n : ℕ) × (length bytes.now ≡ n * (shape self.old).record_len) }
+        requires room { length (taken self.old) + length bytes.now
             ≤ (shape self.old).count * (shape self.old).record_len }
-        requires len { length bytes.now ≡ (shape self.old).record_len }
         ensures taken { taken self.new ≡ taken self.old ++ bytes.now }
         ensures shape { shape self.new ≡ shape self.old };
 }
 
 /// Reads what follows an accepted header into a sink, and answers the snapshot's digest: the
-/// records through a buffer of at most 64 KiB, their digest, and the end of the input. No other
-/// memory is taken but the header's.
+/// records through `buffer`, as many at a time as it has room for, their digest, and the end of the
+/// input. No memory is taken but the header's.
 ///
 /// # Errors
 ///
@@ -50,10 +49,12 @@ pub fn read_records_into<R: Read, S: RecordSink>(
     alloc: Global,
     reader: &mut R,
     header: &Header,
+    buffer: &mut [u8],
     sink: &mut S,
 ) -> Result<[u8; DIGEST_LEN], SnapshotFault>
     requires header { IsHeader header.now }
     requires accepted { IsAccepted header.now }
+    requires room { header.now.record_len ≤ length buffer.old }
     requires shape { S.shape sink.old ≡ shape_of header.now }
     requires none { S.taken sink.old ≡ [] }
     ensures ok { OnOk result (IsSnapshot header.now (S.taken sink.new)
@@ -69,10 +70,9 @@ pub fn read_records_into<R: Read, S: RecordSink>(
 {
     // the bytes that were read: a header has no others
     let prefix = header_bytes(alloc, header)?;
-    let mut buffer = record_buffer(alloc, usize::from(header.record_len))?;
     let mut hasher = Sha256::new();
     hasher.update(&prefix);
-    let good = receive_records(reader, header, &mut buffer, &mut hasher, sink)?;
+    let good = receive_records(reader, header, buffer, &mut hasher, sink)?;
     let made = hasher.finalize();
     let digest = read_array::<DIGEST_LEN, R>(reader)?;
     if digest != made {
@@ -120,49 +120,38 @@ fn receive_records<R: Read, S: RecordSink>(
         let piece = &mut buffer[..n * record_len];
         fill(reader, piece)?;
         hasher.update(&*piece);
-        good = take_records(header, i, good, piece, sink);
+        good = judge_records(header, good, piece);
+        sink.take_records(piece);
         i += n;
     }
     Ok(good)
 }
 
-// Puts the records of a piece into a sink that has taken `first` of them. The answer is whether
-// each that it has now is a slot, in a form of slots, if `good` says so of those before.
-fn take_records<S: RecordSink>(
-    header: &Header,
-    first: usize,
-    good: bool,
-    piece: &[u8],
-    sink: &mut S,
-) -> bool
+// Judges records that come after others: whether each is a slot, in a form of slots, if `good` says
+// so of those before.
+fn judge_records(header: &Header, good: bool, piece: &[u8]) -> bool
     requires some { 1 ≤ header.now.record_len }
-    requires whole { (n : ℕ) × (length piece.now ≡ n * header.now.record_len)
-        × (first + n ≤ header.now.count) }
-    requires shape { S.shape sink.old ≡ shape_of header.now }
-    requires before { length (S.taken sink.old) ≡ first * header.now.record_len }
-    requires good { good ≡ has_slots (with_count first header.now) (S.taken sink.old) }
-    ensures taken { S.taken sink.new ≡ S.taken sink.old ++ piece.now }
-    ensures shape { S.shape sink.new ≡ S.shape sink.old }
-    ensures good { (n : ℕ) → length piece.now ≡ n * header.now.record_len →
-        result ≡ has_slots (with_count (first + n) header.now) (S.taken sink.new) }
+    requires whole { (n : ℕ) × (length piece.now ≡ n * header.now.record_len) }
+    ensures { (before : List ℕ) → (m n : ℕ) → length before ≡ m * header.now.record_len →
+        length piece.now ≡ n * header.now.record_len →
+        good ≡ has_slots (with_count m header.now) before →
+        result ≡ has_slots (with_count (m + n) header.now) (before ++ piece.now) }
 {
+    if !is_slotted(u16::from(header.form)) {
+        return good;
+    }
     let record_len = usize::from(header.record_len);
-    let count = piece.len() / record_len;
     let mut all = good;
-    for k in 0..count {
+    for k in 0..piece.len() / record_len {
         let bytes = &piece[k * record_len..k * record_len + record_len];
-        sink.take_record(bytes);
-        all = is_good(header, bytes) && all;
+        all = is_good(bytes) && all;
     }
     all
 }
 
-// Whether bytes are a slot, in a form of slots.
-fn is_good(header: &Header, bytes: &[u8]) -> bool
-    ensures { result ≡ (if is_slotted header.now.form then is_slot bytes.now else true) }
+// Whether bytes are a slot.
+fn is_good(bytes: &[u8]) -> bool
+    ensures { result ≡ is_slot bytes.now }
 {
-    if !is_slotted(u16::from(header.form)) {
-        return true;
-    }
     read_slot(bytes).is_ok()
 }

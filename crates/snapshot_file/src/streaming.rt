@@ -71,7 +71,7 @@ pub fn write_snapshot_from<S: RecordSource, W: Write>(
 
 // Room for as many whole records as 64 KiB have. What it holds is not said, which keeps it out of
 // the proofs.
-pub(crate) fn record_buffer(alloc: Global, record_len: usize) -> Result<Vec<u8>, AllocError>
+fn record_buffer(alloc: Global, record_len: usize) -> Result<Vec<u8>, AllocError>
     requires { (1 ≤ record_len) × (record_len ≤ 256) }
     ensures { IfOk result (λ buffer. record_len ≤ length buffer.items) }
 {

@@ -5,6 +5,7 @@ use Rattle.std.proofs.lemmas.List.{append-nil, length-append, length-take-le, le
 use Rattle.std.proofs.Math.Nat.{mul-le-mul_right, div-mul-le_self}
 use Rattle.sha2.specs.Hashers.{Holds256}
 use Rattle.snapshot_file.specs.declared.snapshot.Header.{Header}
+use Rattle.digit_pack.specs.Layout.{Shape}
 use Rattle.snapshot_file.specs.Snapshots.{with_count, has_slots}
 use Rattle.snapshot_file.specs.Verdicts.{EndsBelow}
 use Rattle.snapshot_file.proofs.Readings.{below_more}
@@ -46,6 +47,21 @@ piece_len g c =
     (ap (λ n. n / r) (sym c.loop-i.invariant.room)) in
     c.fill.auto.out ∙ length-take-le (c.min-n.result * r) c.loop-i.buffer room ∙ ap (λ x. c.min-n.result * x) c.from-record_len.ensures
 
+pub take_records-requires-clause-room : goal.take_records-requires-clause-room
+take_records-requires-clause-room g c =
+    let i : ℕ = c.loop-i.i in
+    let n : ℕ = c.min-n.result in
+    let r : ℕ = c.args.header.now.record_len in
+    let room : n * c.from-record_len.result ≤ length c.loop-i.buffer =
+    room_for (length c.args.buffer.now / c.from-record_len.result) n c.from-record_len.result (length c.loop-i.buffer) (omega (arith, c.min-n.ensures))
+    (ap (λ n. n / c.from-record_len.result) (sym c.loop-i.invariant.room)) in
+    let long : length c.fill.new.out ≡ n * r =
+    c.fill.auto.out ∙ length-take-le (n * c.from-record_len.result) c.loop-i.buffer room ∙ ap (λ x. n * x) c.from-record_len.ensures in
+    let below : i + n ≤ c.args.header.now.count = omega (arith, c.min-n.ensures, c.loop-i-test.true) in
+    let all : i * r + n * r ≡ (i + n) * r = omega arith in
+    subst (λ (s : Shape). length (g.S.RecordSink.taken c.loop-i.sink) + length c.fill.new.out ≤ s.count * s.record_len)
+    (sym (c.loop-i.invariant.shape ∙ c.requires.shape)) (omega (arith, c.loop-i.invariant.long, long, all, mul-le-mul_right r below))
+
 pub loop-i-preserved : goal.loop-i-preserved
 loop-i-preserved g c =
     let i : ℕ = c.loop-i.i in
@@ -59,14 +75,15 @@ loop-i-preserved g c =
     room_for (length c.args.buffer.now / c.from-record_len.result) n c.from-record_len.result (length c.loop-i.buffer) (omega (arith, c.min-n.ensures))
     (ap (λ n. n / c.from-record_len.result) (sym c.loop-i.invariant.room)) in
     let all : i * r + n * r ≡ (i + n) * r = omega arith in
-    let taken : g.S.RecordSink.taken c.take_records-good.new.sink ≡ before ++ piece = c.take_records-good.ensures.taken in
+    let taken : g.S.RecordSink.taken c.take_records.new.self ≡ before ++ piece = c.take_records.ensures.taken in
     record {
       within = omega (arith, c.min-n.ensures, c.loop-i-test.true);
       room = length-append piece (drop (n * c.from-record_len.result) c.loop-i.buffer)
           ∙ omega (arith, size, whole, room, length-drop (n * c.from-record_len.result) c.loop-i.buffer, c.loop-i.invariant.room);
-      shape = c.take_records-good.ensures.shape ∙ c.loop-i.invariant.shape;
+      shape = c.take_records.ensures.shape ∙ c.loop-i.invariant.shape;
       long = ap (λ (x : List ℕ). length x) taken ∙ omega (arith, length-append before piece, c.loop-i.invariant.long, size, all);
-      good = c.take_records-good.ensures.good n size;
+      good = c.judge_records-good.ensures before i n c.loop-i.invariant.long size c.loop-i.invariant.good
+          ∙ ap (has_slots (with_count (i + n) c.args.header.now)) (sym taken);
       read = subst (Consumes _ _) (sym taken) (Consumes-trans _ _ _ _ _ c.loop-i.invariant.read c.in_ok-fill.ensures.ok);
       hashed = λ m h. subst (Holds256 c.update.new.self)
           (append_assoc m before piece ∙ ap (λ (x : List ℕ). m ++ x) (sym taken))
