@@ -1,10 +1,10 @@
 -- Records that are read out of the digits that keep them, and put into them.
-use Rattle.std.proofs.Common.{◌≡◌, ◌∙◌, ℕ, ◌+◌, ◌-◌, ◌*◌, ◌/◌, ◌%◌, ◌^◌, ◌<◌, ◌≤◌, List, [], ◌∷◌, ◌++◌, All, length, take, drop, slice_set, refl, sym, ap, subst, arith, inl, inr}
+use Rattle.std.proofs.Common.{◌≡◌, ◌∙◌, ℕ, ◌+◌, ◌-◌, ◌*◌, ◌/◌, ◌%◌, ◌^◌, ◌<◌, ◌≤◌, List, [], ◌++◌, All, length, take, drop, slice_set, refl, sym, ap, subst, arith, inl, inr}
 use Rattle.std.proofs.Math.Nat.{mul-le-mul_left, mul-div_cancel, div-mul-le_self}
 use borrow.Rule.Slice.PartMut.{put_mid, post_of}
 use Rattle.std.proofs.lemmas.Bool.{cases_lt}
 use Rattle.std.proofs.lemmas.Nat.{row_fits, le-div}
-use Rattle.std.proofs.lemmas.List.{length-append, length-take-le, length-drop, get_or_append_left, get_or-append_right, get_or_past}
+use Rattle.std.proofs.lemmas.List.{length-append, length-take-le, length-drop, get_or_past}
 use Rattle.std.proofs.lemmas.List.Elements.{All-append, All-take, All-drop}
 use Rattle.matrix_u32.specs.Matrix.{WordMatrix, entry_or_zero, widened}
 use Rattle.matrix_u32.specs.Sum.{sum_below}
@@ -18,9 +18,8 @@ use Rattle.digit_pack.specs.Laws.{PacksAndUnpacks}
 use Rattle.digit_pack.specs.Layout.{Shape, IsLayout, IsRecord, FitsRecord, digit_at, digit_matrix, digit_rows, digit_cols, digits_per_record, first_row, column_of, record_at, record_bytes, record_digits, records_in}
 use Rattle.digit_pack.proofs.Changes.{zero_digit}
 use Rattle.digit_pack.proofs.HeldRecords.{digits_back}
-use Rattle.digit_pack.proofs.RecordLemmas.{shape_of_layout, record_written, record_replaced, written_record}
+use Rattle.digit_pack.proofs.RecordLemmas.{shape_of_layout, record_replaced, written_record}
 use Rattle.digit_pack.proofs.Records.{unpack-pack}
-use Rattle.snapshot_file.proofs.Received.{one_after}
 use Rattle.version_store.specs.KeptRecords.{IsKept, counted, bytes_in_digits}
 use Rattle.version_store.specs.Openings.{bytes_of_records}
 use Rattle.version_store.proofs.KeptBytes.{below_count}
@@ -80,27 +79,6 @@ module _ (l : Shape) (n : ℕ) (bytes : List ℕ) (layout : IsLayout l) (few : n
       len = ap length bytes_back ∙ long;
       digits_are = made ∙ ap (λ (b : List ℕ). digit_matrix l (records_in (counted l n) b)) (sym bytes_back);
     }
-
--- ---- one record more is written
-
-module _ (l : Shape) (n : ℕ) (bytes s : List ℕ) (layout : IsLayout l) (below : n < l.count) (long : length bytes ≡ n * l.record_len)
-    (size : length s ≡ l.record_len) (digits new : WordMatrix) (made : digits ≡ digit_matrix l (records_in (counted l n) bytes))
-    (written : WritesColumn digits new (first_row l n) (column_of l n) (record_digits l s)) where
-  pub next_made : new ≡ digit_matrix l (records_in (counted l (n + 1)) (bytes ++ s))
-  next_made =
-      let xs : List (List ℕ) = records_in (counted l n) bytes in
-      let many : length xs ≡ n = long_records (counted l n) bytes in
-      let none : n - n ≡ 0 = omega arith in
-      record_written l xs (xs ++ s ∷ []) n s new (shape_of_layout l layout) below
-      (get_or-append_right xs (s ∷ []) n n [] many (omega arith) ∙ ap (λ (k : ℕ). record_at (s ∷ []) k) none)
-      (λ k apart. elim (cases_lt k n) [
-        | inl lt ↦ get_or_append_left xs (s ∷ []) [] k (omega (arith, lt, many))
-        | inr ge ↦
-            get_or_past (xs ++ s ∷ []) k [] (omega (arith, ge, apart, length-append xs (s ∷ []), many))
-            ∙ sym (get_or_past xs k [] (omega (arith, ge, many)))
-      ])
-      (subst (λ (m : WordMatrix). WritesColumn m new (first_row l n) (column_of l n) (record_digits l s)) made written)
-      ∙ ap (digit_matrix l) (sym (one_after (counted l n) (counted l (n + 1)) bytes s refl refl long size))
 
 -- ---- a record is replaced
 
@@ -193,24 +171,6 @@ module _ (l : Shape) (n : ℕ) (digits : WordMatrix) (kept : IsKept l n digits) 
 
   pub kept_record : (i : ℕ) → i < n → record_in_digits l digits i ≡ take l.record_len (drop (i * l.record_len) (bytes_in_digits l n digits))
   kept_record i lt = record_back l n (bytes_in_digits l n digits) kept.layout kept.few kept.len kept.small digits kept.digits_are i lt
-
-  -- one record more
-  module _ (s : List ℕ) (new : WordMatrix) (below : n < l.count) (size : length s ≡ l.record_len) (small : All (λ x. x < 2 ^ 8) s)
-      (written : WritesColumn digits new (first_row l n) (column_of l n) (record_digits l s)) where
-    more_made : new ≡ digit_matrix l (records_in (counted l (n + 1)) (bytes_in_digits l n digits ++ s))
-    more_made = next_made l n (bytes_in_digits l n digits) s kept.layout below kept.len size digits new kept.digits_are written
-
-    more_long : length (bytes_in_digits l n digits ++ s) ≡ (n + 1) * l.record_len
-    more_long = omega (arith, length-append (bytes_in_digits l n digits) s, kept.len, size)
-
-    more_small : All (λ x. x < 2 ^ 8) (bytes_in_digits l n digits ++ s)
-    more_small = All-append (λ x. x < 2 ^ 8) (bytes_in_digits l n digits) s kept.small small
-
-    pub kept_next : IsKept l (n + 1) new
-    kept_next = is_kept l (n + 1) (bytes_in_digits l n digits ++ s) kept.layout (omega arith) more_long more_small new more_made
-
-    pub bytes_next : bytes_in_digits l (n + 1) new ≡ bytes_in_digits l n digits ++ s
-    bytes_next = bytes_back l (n + 1) (bytes_in_digits l n digits ++ s) kept.layout (omega arith) more_long more_small new more_made
 
   -- another record i
   module _ (s : List ℕ) (new : WordMatrix) (i : ℕ) (below : i < l.count) (size : length s ≡ l.record_len) (small : All (λ x. x < 2 ^ 8) s)

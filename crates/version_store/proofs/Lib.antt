@@ -21,6 +21,7 @@ pub mod Grown
 pub mod GrownLayer
 pub mod RecordsPut
 pub mod KeptDigits
+pub mod Blocks
 pub mod Batches
 pub mod Prepared
 pub mod OldsKept

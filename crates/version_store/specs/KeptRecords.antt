@@ -1,5 +1,5 @@
 -- Records that are kept in digits alone.
-use Rattle.std.specs.Prelude.{◌≡◌, ◌≤◌, ◌<◌, ◌+◌, ◌*◌, ◌%◌, ◌^◌, ℕ, List, [], All, length, if◌then◌else◌, nat_lt}
+use Rattle.std.specs.Prelude.{◌≡◌, ◌≤◌, ◌<◌, ◌+◌, ◌-◌, ◌*◌, ◌%◌, ◌^◌, ℕ, List, [], All, length, if◌then◌else◌, nat_lt}
 use Rattle.std.specs.List.{flat_map}
 use Rattle.matrix_u32.specs.Matrix.{WordMatrix}
 use Rattle.matrix_u32.specs.Sum.{list_of}
@@ -19,6 +19,11 @@ counted l n = record l { count = n }
 abbrev pub records_of_groups : Shape → List (List ℕ) → ℕ → List (List ℕ)
 records_of_groups l xs g = list_of l.count (λ k. if nat_lt (k % l.groups) g then record_at xs k else [])
 
+-- records xs, and in the places of the k from m on others, ys
+abbrev pub records_over : Shape → List (List ℕ) → ℕ → ℕ → List (List ℕ) → List (List ℕ)
+records_over l xs m k ys =
+    list_of l.count (λ q. if nat_lt q m then record_at xs q else (if nat_lt q (m + k) then record_at ys (q - m) else record_at xs q))
+
 -- the bytes of the first n records that a digit matrix holds, one after another
 abbrev pub bytes_in_digits : Shape → ℕ → WordMatrix → List ℕ
 bytes_in_digits l n digits = flat_map (λ bytes. bytes) (records_in_digits (counted l n) digits)
@@ -30,10 +35,3 @@ pub record IsKept (l : Shape) (n : ℕ) (digits : WordMatrix) : Type 0 where
   pub small : All (λ b. b < 2 ^ 8) (bytes_in_digits l n digits)
   pub len : length (bytes_in_digits l n digits) ≡ n * l.record_len
   pub digits_are : digits ≡ digit_matrix l (records_in (counted l n) (bytes_in_digits l n digits))
-
--- there is room for one record more behind those n that wait, in so many bytes, and for those that
--- wait behind those that are kept
-pub record HasRoomForMore (kept : KeptRecords) (n room : ℕ) : Type 0 where
-  pub some : 1 ≤ kept.shape.record_len
-  pub waiting : n * kept.shape.record_len + kept.shape.record_len ≤ room
-  pub behind : length kept.bytes + n * kept.shape.record_len ≤ kept.shape.count * kept.shape.record_len

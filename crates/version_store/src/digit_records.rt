@@ -5,13 +5,17 @@ ghost use Rattle.std.specs.Prelude.{IfOk, OnOk, OnErr, slice_set};
 ghost use Rattle.digit_pack.specs.Columns.{WritesColumn};
 ghost use Rattle.digit_pack.specs.Layout.{digit_rows, digit_cols, digit_matrix, first_row};
 ghost use Rattle.digit_pack.specs.Layout.{column_of, digits_per_record, record_digits, records_in};
-ghost use Rattle.version_store.specs.KeptRecords.{counted, records_of_groups};
+ghost use Rattle.version_store.specs.KeptRecords.{counted, records_of_groups, records_over};
 
 use crate::first_layer::Digits;
 use digit_pack::{DigitStore, Layout, copy_record, digit_buffer, digits_of_records, pack};
 use snapshot_file::{RecordSink, RecordSource};
 use std::alloc::{AllocError, Global};
 use std::marker::Model;
+
+/// How many bytes of records that stand together are written before those of the next column: one
+/// line of a processor's cache.
+const BLOCK_LEN: usize = 64;
 
 /// The first records of a layout, kept in its digits alone. A contract sees it as the layout and
 /// the records' bytes.
@@ -50,9 +54,10 @@ impl RecordSink for DigitRecords {
 
     ghost shape = { λ d. d.shape };
 
-    fn take_record(&mut self, bytes: &[u8]) {
-        write_place(&self.layout, &mut self.digits, self.taken, bytes);
-        self.taken += 1;
+    fn take_records(&mut self, bytes: &[u8]) {
+        let count = bytes.len() / self.layout.record_len();
+        write_records(&self.layout, &mut self.digits, self.taken, count, bytes);
+        self.taken += count;
     }
 }
 
@@ -93,31 +98,6 @@ impl DigitRecords {
         })
     }
 
-    /// How many bytes a record has.
-    pub fn record_len(&self) -> usize
-        ensures value { result ≡ self.now.shape.record_len }
-        ensures some { 1 ≤ result }
-    {
-        self.layout.record_len()
-    }
-
-    /// Takes records that stand one after another in `bytes`, after those that it has. It takes no
-    /// memory.
-    ///
-    /// They are written as [`digits_of_records`] writes them, so it is best for records of whole
-    /// columns.
-    pub fn take_records(&mut self, bytes: &[u8])
-        requires whole { (n : ℕ) × (length bytes.now ≡ n * self.old.shape.record_len) }
-        requires room { length self.old.bytes + length bytes.now ≤
-            self.old.shape.count * self.old.shape.record_len }
-        ensures { self.new ≡
-            record { shape = self.old.shape; bytes = self.old.bytes ++ bytes.now } }
-    {
-        let count = bytes.len() / self.layout.record_len();
-        write_records(&self.layout, &mut self.digits, self.taken, count, bytes);
-        self.taken += count;
-    }
-
     /// Puts other bytes in the place of record i. It takes no memory.
     pub fn replace(&mut self, i: usize, bytes: &[u8])
         requires index { i < self.old.shape.count }
@@ -151,7 +131,7 @@ impl DigitRecords {
             return Err(AllocError);
         };
         self.layout = layout;
-        self.take_record(bytes);
+        self.take_records(bytes);
         Ok(())
     }
 
@@ -166,7 +146,8 @@ impl DigitRecords {
 }
 
 // Writes the digits of `count` records, which stand one after another in `bytes`, into the places
-// of records from `first` on: those of a group, which have their rows in common, one after another.
+// of records from `first` on: some groups, whose rows are near one another, in all of their
+// columns, then the next ones.
 fn write_records(layout: &Layout, digits: &mut Digits, first: usize, count: usize, bytes: &[u8])
     requires inside { first + count ≤ layout.now.count }
     requires len { length bytes.now ≡ count * layout.now.record_len }
@@ -176,51 +157,82 @@ fn write_records(layout: &Layout, digits: &mut Digits, first: usize, count: usiz
         digits.old ≡ digit_matrix layout.now xs → digits.new ≡
         digit_matrix layout.now (xs ++ records_in (counted layout.now count) bytes.now) }
 {
-    let mut room = digit_buffer();
-    let packed = &mut room[..layout.digits_per_record()];
-    for group in 0..layout.groups() {
-        write_group(layout, digits, first, group, count, bytes, packed);
+    let groups = layout.groups();
+    let step = (BLOCK_LEN / layout.record_len()).max(1);
+    let mut from = 0;
+    while from < groups {
+        let to = groups.min(from + step);
+        write_block(layout, digits, first, count, bytes, from, to);
+        from = to;
     }
 }
 
-// Writes the digits of one group of those records, in one column after another, `packed` being room
-// for those of one record. Where the first of them stands is found by division, and no other's, so
-// that records of one byte cost no more than to write them.
-fn write_group(
+// Writes the digits of the groups `from` up to `to` of those records, one column after another: the
+// bytes of those in one column stand together, in a line of the cache.
+fn write_block(
     layout: &Layout,
     digits: &mut Digits,
     first: usize,
-    group: usize,
     count: usize,
     bytes: &[u8],
-    packed: &mut [u32],
+    from: usize,
+    to: usize,
 )
-    requires group { group < layout.now.groups }
+    requires groups { (from ≤ to) × (to ≤ layout.now.groups) }
     requires inside { first + count ≤ layout.now.count }
     requires len { length bytes.now ≡ count * layout.now.record_len }
     requires rows { digits.old.rows ≡ digit_rows layout.now }
     requires cols { digits.old.cols ≡ digit_cols layout.now }
-    requires room { length packed.old ≡ digits_per_record layout.now }
     ensures rows { digits.new.rows ≡ digit_rows layout.now }
     ensures cols { digits.new.cols ≡ digit_cols layout.now }
-    ensures room { length packed.new ≡ length packed.old }
     ensures written { (xs : List (List ℕ)) → length xs ≡ first → digits.old ≡ digit_matrix
         layout.now (xs ++ records_of_groups (counted layout.now count)
-        (records_in (counted layout.now count) bytes.now) group) → digits.new ≡ digit_matrix
+        (records_in (counted layout.now count) bytes.now) from) → digits.new ≡ digit_matrix
         layout.now (xs ++ records_of_groups (counted layout.now count)
-        (records_in (counted layout.now count) bytes.now) (group + 1)) }
+        (records_in (counted layout.now count) bytes.now) to) }
 {
     let groups = layout.groups();
     let len = layout.record_len();
-    let row = (first + group) % groups * layout.digits_per_record();
-    let col = (first + group) / groups;
     for n in 0..(count + groups - 1) / groups {
-        let i = n * groups + group;
-        if i >= count {
-            continue;
+        let begin = n * groups + from;
+        let end = count.min(n * groups + to);
+        if begin < end {
+            let many = end - begin;
+            let run = &bytes[begin * len..begin * len + many * len];
+            write_run(layout, digits, first + begin, many, run);
         }
-        let record = &bytes[i * len..i * len + len];
-        write_column(layout, digits, row, col + n, record, packed);
+    }
+}
+
+// Writes the digits of `count` records, which stand one after another in `bytes`, into the places
+// of records from `at` on, one below another. Where the first of them stands is found by division,
+// and no other's, so that records of one byte cost no more than to write them.
+fn write_run(layout: &Layout, digits: &mut Digits, at: usize, count: usize, bytes: &[u8])
+    requires inside { at + count ≤ layout.now.count }
+    requires len { length bytes.now ≡ count * layout.now.record_len }
+    requires rows { digits.old.rows ≡ digit_rows layout.now }
+    requires cols { digits.old.cols ≡ digit_cols layout.now }
+    ensures rows { digits.new.rows ≡ digit_rows layout.now }
+    ensures cols { digits.new.cols ≡ digit_cols layout.now }
+    ensures written { (xs : List (List ℕ)) → length xs ≤ layout.now.count →
+        digits.old ≡ digit_matrix layout.now xs → digits.new ≡ digit_matrix layout.now
+        (records_over layout.now xs at count (records_in (counted layout.now count) bytes.now)) }
+{
+    let groups = layout.groups();
+    let len = layout.record_len();
+    let each = layout.digits_per_record();
+    let mut room = digit_buffer();
+    let packed = &mut room[..each];
+    let mut group = at % groups;
+    let mut col = at / groups;
+    for k in 0..count {
+        let record = &bytes[k * len..k * len + len];
+        write_column(layout, digits, group * each, col, record, packed);
+        group += 1;
+        if group == groups {
+            group = 0;
+            col += 1;
+        }
     }
 }
 

@@ -14,7 +14,6 @@ pub mod laws;
 mod old_bytes;
 mod opening;
 mod preparing;
-mod record_batches;
 mod row_marks;
 mod rows;
 mod store;

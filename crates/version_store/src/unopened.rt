@@ -1,7 +1,7 @@
 //! What a store is opened with: a snapshot that was read to its end, before any hint is made.
 
 ghost use Rattle.std.specs.Prelude.{◌≡◌, ◌≤◌, ◌<◌, ◌+◌, ◌++◌, ◌∷◌, [], ℕ, List, true, IfOk, IfErr};
-ghost use Rattle.std.specs.Prelude.{IfSome, OnOk, OnErr, slice_set};
+ghost use Rattle.std.specs.Prelude.{IfSome, OnOk, OnErr, length, slice_set};
 ghost use Rattle.std.specs.Io.KnownBytes.{Consumes, IsAtEnd};
 ghost use Rattle.sha2.specs.Sha256.{sha256};
 ghost use Rattle.digit_pack.specs.Layout.{IsLayout};
@@ -14,11 +14,11 @@ ghost use Rattle.version_store.specs.HeldRecords.{bytes_held_by};
 ghost use Rattle.version_store.specs.HeldFor.{IsHeldFor};
 ghost use Rattle.version_store.specs.Openings.{IsSound, held_of, plan_held, records_for};
 
+use crate::digit_records::DigitRecords;
 use crate::held_records::HeldRecords;
 use crate::opening::plan_of;
-use crate::record_batches::RecordBatches;
 use crate::store::Store;
-use digit_pack::{is_wide, record_buffer};
+use digit_pack::{Layout, is_wide, record_buffer};
 use matrix_u32::Kernel;
 use pir_schemes::Plan;
 use simple_scheme::{HintWatcher, Unwatched};
@@ -28,6 +28,10 @@ use snapshot_file::{
 use std::alloc::{AllocError, Global};
 use std::io::Read;
 use std::marker::Model;
+
+/// Of how many columns the records are read at a time: as many as have their digits, three in a
+/// word of four bytes, in one line of a processor's cache.
+const COLUMNS: usize = 48;
 
 /// What a store is opened with: a snapshot that was read to its end, with the changes that were
 /// made in its records since, before any hint is made. A wide one keeps its records in their digits
@@ -220,7 +224,18 @@ fn read_held<R: Read>(
     }
     // The sizes are within the limits: no refusal is left.
     let layout = header.layout().unwrap();
-    let mut records = RecordBatches::new(alloc, layout)?;
-    let digest = read_records_into(alloc, reader, header, &mut records)?;
-    Ok((HeldRecords::Digits(records.finish()), digest))
+    let mut buffer = columns_buffer(alloc, &layout)?;
+    let mut records = DigitRecords::new(alloc, layout)?;
+    let digest = read_records_into(alloc, reader, header, &mut buffer, &mut records)?;
+    Ok((HeldRecords::Digits(records), digest))
+}
+
+// Room for the records of some columns, or for all if they have fewer: those that come one after
+// another stand below one another, each digit in another row, and to write some columns takes
+// hardly more time than to write one.
+fn columns_buffer(alloc: Global, layout: &Layout) -> Result<Vec<u8>, AllocError>
+    ensures { IfOk result (λ buffer. layout.now.record_len ≤ length buffer.items) }
+{
+    let most = (COLUMNS * layout.groups()).min(layout.count());
+    vec![in alloc; 0; most * layout.record_len()]
 }

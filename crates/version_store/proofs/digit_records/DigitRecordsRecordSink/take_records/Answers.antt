@@ -3,7 +3,7 @@ use Rattle.std.proofs.lemmas.List.Elements.{All-from_get_or}
 use Rattle.digit_pack.specs.Layout.{Shape}
 use Rattle.version_store.specs.KeptRecords.{IsKept, KeptRecords, bytes_in_digits}
 use Rattle.version_store.proofs.Batches.{batch_count, few_more, kept_batch, bytes_batch}
-use Rattle.version_store.proofs.digit_records.DigitRecords.take_records.Goals as goal
+use Rattle.version_store.proofs.digit_records.DigitRecordsRecordSink.take_records.Goals as goal
 
 -- what is known of the bytes, by the layout inside
 long_inside : (v : KeptRecords) (l : Shape) (old new : List ℕ) → record { shape = l; bytes = old } ≡ v → (m : ℕ) → length new ≡ m * v.shape.record_len →
@@ -45,15 +45,12 @@ invariant_of-self c =
     c.self.view_is c.requires.room)
     (All-from_get_or (λ x. x < 2 ^ 8) c.args.bytes.now 0 (λ i _. (c.type_inv.bytes i).fits)) c.write_records.new.digits c.write_records.ensures
 
-pub returns : goal.returns
-returns c =
-    let of : Shape → List ℕ → KeptRecords = λ s b. record { shape = s; bytes = b } in
-    ap (of c.self.inside.layout)
-    (bytes_batch c.self.inside.layout c.self.inside.taken c.self.inside.digits c.self.invariant c.args.bytes.now
-    (length c.args.bytes.now / c.record_len.result)
+pub returns-clause-taken : goal.returns-clause-taken
+returns-clause-taken c =
+    bytes_batch c.self.inside.layout c.self.inside.taken c.self.inside.digits c.self.invariant c.args.bytes.now (length c.args.bytes.now / c.record_len.result)
     (long c.self.inside.layout c.self.inside.taken c.self.inside.digits c.self.invariant c.args.self.now c.self.view_is c.args.bytes.now c.requires.whole
     c.record_len.result c.record_len.ensures.value)
     (room_inside c.args.self.now c.self.inside.layout (bytes_in_digits c.self.inside.layout c.self.inside.taken c.self.inside.digits) c.args.bytes.now
     c.self.view_is c.requires.room)
-    (All-from_get_or (λ x. x < 2 ^ 8) c.args.bytes.now 0 (λ i _. (c.type_inv.bytes i).fits)) c.write_records.new.digits c.write_records.ensures)
-    ∙ ap (λ (v : KeptRecords). of v.shape (v.bytes ++ c.args.bytes.now)) c.self.view_is
+    (All-from_get_or (λ x. x < 2 ^ 8) c.args.bytes.now 0 (λ i _. (c.type_inv.bytes i).fits)) c.write_records.new.digits c.write_records.ensures
+    ∙ ap (λ (v : KeptRecords). v.bytes ++ c.args.bytes.now) c.self.view_is
