@@ -291,6 +291,14 @@ static void wide(sizes n)
     say("packed matrix by vector", packed_count, count, took, out, n.rows);
     several(packed, n, 3, (word *[]){x, y, x, y});
     free(packed), free(out), free(x), free(y);
+
+    // What a query of two layers has between its passes over digits: those of the first layer's answer, four rows
+    // of them, times the second public matrix, whose rows are rounded up to whole blocks.
+    size_t inner = (n.rows + BLOCK - 1) / BLOCK * BLOCK;
+    word *first = filled(4 * inner, 4, 511u), *public = filled(inner * n.secret, 2, ~0u), *made = zeros(4 * n.secret);
+    took = LEAST(3, product_blocked(first, public, 4, inner, n.secret, made));
+    say("four rows of digits by a public matrix", inner * n.secret, 4.0 * inner * n.secret, took, made, 4 * n.secret);
+    free(first), free(public), free(made);
 }
 
 // The words of a hint, read once.
