@@ -1,17 +1,21 @@
 -- Records that are copied and written piece by piece.
-use Rattle.std.proofs.Common.{◌≡◌, ℕ, ◌+◌, ◌*◌, ◌≤◌, List, ◌++◌, length, take, drop, sym, ap, ◌∙◌, arith}
+use Rattle.std.proofs.Common.{◌≡◌, ℕ, ◌+◌, ◌*◌, ◌/◌, ◌≤◌, List, ◌++◌, length, take, drop, sym, ap, ◌∙◌, arith}
 use Rattle.std.proofs.lemmas.List.{take-append-drop, drop-drop}
 use Rattle.std.proofs.lemmas.Slice.{take-put_mid}
+use Rattle.std.proofs.Math.Nat.{mul-div_cancel}
 use Rattle.std.proofs.Math.Seq.{take-add}
 use borrow.Rule.Slice.PartMut.{put_mid}
 
--- n records more
-pub longer : (i n r : ℕ) → i * r + n * r ≡ (i + n) * r
-longer i n r = omega arith
+pub add_times : (p q m : ℕ) → (p + q) * m ≡ p * m + q * m
+add_times p q m = omega arith
+
+-- how many records of one length so many bytes are
+pub batch_count : (bytes r len m : ℕ) → bytes ≡ m * len → r ≡ len → 1 ≤ len → bytes / r ≡ m
+batch_count bytes r len m whole same some = ap (λ x. bytes / x) same ∙ ap (λ x. x / len) whole ∙ mul-div_cancel m some
 
 -- from record i on, the first records and n more
 pub taken_more : (i n r : ℕ) (bytes : List ℕ) → take (i * r) bytes ++ take (n * r) (drop (i * r) bytes) ≡ take ((i + n) * r) bytes
-taken_more i n r bytes = sym (take-add (i * r) (n * r) bytes) ∙ ap (λ k. take k bytes) (longer i n r)
+taken_more i n r bytes = sym (take-add (i * r) (n * r) bytes) ∙ ap (λ k. take k bytes) (sym (add_times i n r))
 
 -- what was written before a piece, the piece, and what comes after it
 pub split_piece : (i n r : ℕ) (bytes piece : List ℕ) → piece ≡ take (n * r) (drop (i * r) bytes) →

@@ -1,17 +1,16 @@
 -- Records that stand one after another behind those that are kept.
-use Rattle.std.proofs.Common.{◌≡◌, ◌∙◌, ℕ, ◌+◌, ◌-◌, ◌*◌, ◌/◌, ◌<◌, ◌≤◌, List, [], ◌++◌, length, take, drop, All, ◌^◌, ap, sym, arith, inl, inr}
+use Rattle.std.proofs.Common.{◌≡◌, ◌∙◌, ℕ, ◌+◌, ◌-◌, ◌*◌, ◌<◌, ◌≤◌, List, [], ◌++◌, length, take, drop, All, ◌^◌, ap, sym, arith, inl, inr}
 use Rattle.std.proofs.lemmas.Bool.{cases_lt}
 use Rattle.std.proofs.lemmas.List.{get_or_append_left, get_or-append_right, get_or_past, length-append, length-drop, take-append-le, drop-append-le}
 use Rattle.std.proofs.Math.Seq.{drop-append-add}
 use Rattle.std.proofs.lemmas.Nat.{row_fits}
-use Rattle.std.proofs.Math.Nat.{mul-div_cancel}
 use Rattle.std.proofs.lemmas.List.Elements.{All-append}
 use Rattle.matrix_u32.specs.Matrix.{WordMatrix}
 use Rattle.matrix_u32.proofs.Products.{at-list_of_any}
 use Rattle.digit_pack.specs.Layout.{Shape, digit_matrix, record_at, records_in}
 use Rattle.digit_pack.proofs.Turns.{same_digits}
+use Rattle.snapshot_file.proofs.Pieces.{add_times}
 use Rattle.version_store.specs.KeptRecords.{IsKept, bytes_in_digits, counted}
-use Rattle.version_store.proofs.Blocks.{add_times}
 use Rattle.version_store.proofs.KeptBytes.{below_count}
 use Rattle.version_store.proofs.KeptDigits.{is_kept, bytes_back}
 use Rattle.version_store.proofs.Versions.{long_records}
@@ -68,10 +67,6 @@ joined_digits l n k a b long_a long_b = same_digits l (xs ++ ys) zs (λ j. elim 
         ∙ sym (ap (take r) (ap (λ m. drop m (a ++ b)) from ∙ drop-append-add a b ((j - n) * r)))
 
 -- ---- records are taken into what is kept
-
--- how many records of one length so many bytes are
-pub batch_count : (bytes r len m : ℕ) → bytes ≡ m * len → r ≡ len → 1 ≤ len → bytes / r ≡ m
-batch_count bytes r len m whole same some = ap (λ x. bytes / x) same ∙ ap (λ x. x / len) whole ∙ mul-div_cancel m some
 
 module _ (l : Shape) (n : ℕ) (digits : WordMatrix) (kept : IsKept l n digits) (new : List ℕ) (k : ℕ) (long : length new ≡ k * l.record_len)
     (room : length (bytes_in_digits l n digits) + length new ≤ l.count * l.record_len) where

@@ -12,6 +12,7 @@ use Rattle.digit_pack.specs.Columns.{WritesColumn}
 use Rattle.digit_pack.specs.Layout.{Shape, IsLayout, digit_cols, digit_matrix, first_row, column_of, record_at, record_digits, records_in}
 use Rattle.digit_pack.proofs.RecordLemmas.{shape_of_layout, record_written}
 use Rattle.digit_pack.proofs.Turns.{taken, left, same_digits, column_inside}
+use Rattle.snapshot_file.proofs.Pieces.{add_times}
 use Rattle.version_store.specs.KeptRecords.{counted, records_of_groups, records_over}
 
 -- a layout with fewer records
@@ -32,9 +33,6 @@ fewer_records l k h some few = record {
 -- how many columns so many records have, by the groups' number
 pub columns_are : (k g h : ℕ) → g ≡ h → (k + g - 1) / g ≡ (k + h - 1) / h
 columns_are k g h e = ap (λ x. (k + x - 1) / x) e
-
-pub add_times : (p q m : ℕ) → (p + q) * m ≡ p * m + q * m
-add_times p q m = omega arith
 
 -- the bytes of m records from record b on end among those of all
 pub run_end : (b m k r len total : ℕ) → b + m ≤ k → r ≡ len → total ≡ k * len → b * r + m * r ≤ total

@@ -30,6 +30,7 @@ use Rattle.pir_schemes.specs.declared.scheme.Scheme.TheVariants.{Simple, Double}
 use Rattle.pir_schemes.specs.declared.plan.Plan.{Plan}
 use Rattle.pir_schemes.specs.Plans.{IsPlan, shape_at, fits, slot, slots, digits_at, first_public, second_public}
 use Rattle.pir_schemes.specs.Retrievals.{hint_matrix, server_hint}
+use Rattle.snapshot_file.proofs.Pieces.{add_times}
 use Rattle.version_store.specs.Deltas.{wide_row, differs_at, changed_rows}
 use Rattle.version_store.specs.Drafts.{Changes, FitRecords, bytes_or, change_at, draft_of, grown_to}
 use Rattle.version_store.specs.Editions.{Records, IsMadeTwice, blank, grown}
@@ -173,9 +174,6 @@ zeros_after l m bytes k len count long =
           ∙ sym (get_or-replicate k j (replicate r 0) [] few)
           ∙ sym (get_or-append_right (records_in l bytes) further l.count i [] (long_records l bytes) new)
     ])
-  where
-    add_times : (a b r : ℕ) → (a + b) * r ≡ a * r + b * r
-    add_times a b r = omega arith
 
 -- ---- their digits
 

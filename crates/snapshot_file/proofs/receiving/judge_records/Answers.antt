@@ -1,18 +1,14 @@
 use Rattle.std.proofs.Common.{◌≡◌, ◌∙◌, ◌+◌, ◌-◌, ◌*◌, ◌/◌, ◌≤◌, ◌++◌, [], ℕ, List, true, length, take, drop, sym, ap, arith, append_assoc}
 use Rattle.std.specs.Prelude.{◌&&◌, if◌then◌else◌}
 use Rattle.std.proofs.lemmas.List.{append-nil, take_all, length-append, length-take-le, length-drop}
-use Rattle.std.proofs.Math.Nat.{mul-div_cancel, mul-le-mul_right}
+use Rattle.std.proofs.Math.Nat.{mul-le-mul_right}
 use Rattle.digit_pack.specs.Slots.{is_slotted, is_slot}
 use Rattle.snapshot_file.specs.declared.snapshot.Header.{Header}
 use Rattle.snapshot_file.specs.Snapshots.{with_count, has_slots}
-use Rattle.snapshot_file.proofs.Pieces.{taken_more}
+use Rattle.snapshot_file.proofs.Pieces.{batch_count, taken_more}
 use Rattle.snapshot_file.proofs.Received.{none_judged, slots_more}
 use Rattle.snapshot_file.proofs.receiving.judge_records.Goals.{then-is_good, else-is_good}
 use Rattle.snapshot_file.proofs.receiving.judge_records.Goals as goal
-
--- so many records of the piece there are
-pieces_are : (len n r x : ℕ) → x ≡ r → len ≡ n * r → 1 ≤ r → len / x ≡ n
-pieces_are len n r x same whole some = ap (λ y. len / y) same ∙ ap (λ y. y / r) whole ∙ mul-div_cancel n some
 
 no_bytes : (r : ℕ) (piece : List ℕ) → [] ≡ take (0 * r) piece
 no_bytes r piece = let none : 0 ≡ 0 * r = omega arith in ap (λ k. take k piece) none
@@ -39,7 +35,7 @@ loop-k-preserved c =
     let cut : k * r + r - k * r ≡ 1 * r = omega arith in
     let one : 1 * r ≡ r = omega arith in
     let pieces : length piece / c.from-record_len.result ≡ n =
-    pieces_are (length piece) n r c.from-record_len.result c.from-record_len.ensures c.requires.whole.1 c.requires.some in
+    batch_count (length piece) c.from-record_len.result r n c.requires.whole.1 c.from-record_len.ensures c.requires.some in
     let below : k + 1 ≤ n = omega (arith, c.loop-k-test.true, pieces) in
     let next : (k + 1) * r ≡ k * r + r = omega arith in
     let room : k * r + r ≤ length piece = omega (arith, next, mul-le-mul_right r below, c.requires.whole.1) in
@@ -84,7 +80,7 @@ returns c =
     let piece : List ℕ = c.args.piece.now in
     λ before m n long whole good.
     let pieces : length piece / c.from-record_len.result ≡ n =
-    pieces_are (length piece) n r c.from-record_len.result c.from-record_len.ensures whole c.requires.some in
+    batch_count (length piece) c.from-record_len.result r n whole c.from-record_len.ensures c.requires.some in
     let last : c.loop-k.k ≡ n = omega (arith, pieces, c.loop-k-test.false, c.loop-k.auto.k-end) in
     let all : c.loop-k.k * r ≡ length piece = ap (λ j. j * r) last ∙ sym whole in
     c.loop-k.invariant.judged before m long good

@@ -4,7 +4,7 @@ use Rattle.std.proofs.KnownBytes.{Appends-trans}
 use Rattle.std.proofs.lemmas.List.{length-take-le, length-append, length-drop}
 use Rattle.std.proofs.Math.Nat.{mul-le-mul_right, div-mul-le_self}
 use Rattle.sha2.specs.Hashers.{Holds256}
-use Rattle.snapshot_file.proofs.Pieces.{longer, taken_more, split_piece}
+use Rattle.snapshot_file.proofs.Pieces.{add_times, taken_more, split_piece}
 use Rattle.snapshot_file.proofs.Writings.{part_taken, part_shorter}
 use Rattle.snapshot_file.proofs.streaming.write_records.Goals as goal
 
@@ -20,7 +20,7 @@ module _ (i n r count : ℕ) (buffer bytes piece : List ℕ) (left : n ≤ count
   pub inside : i * r + length (take (n * r) buffer) ≤ length bytes
   inside =
       let all : i + n ≤ count = omega (arith, left, below) in
-      omega (arith, long, len, longer i n r, mul-le-mul_right r all)
+      omega (arith, long, len, add_times i n r, mul-le-mul_right r all)
 
   pub whole : piece ≡ take (length (take (n * r) buffer)) (drop (i * r) bytes) → piece ≡ take (n * r) (drop (i * r) bytes)
   whole e = e ∙ ap (λ m. take m (drop (i * r) bytes)) long

@@ -1,8 +1,9 @@
 use Rattle.std.proofs.Common.{◌≡◌, ◌∙◌, ◌+◌, ◌*◌, ◌/◌, ◌++◌, ◌<◌, ◌≤◌, ◌^◌, ℕ, List, ap, sym, subst, length}
 use Rattle.std.proofs.lemmas.List.Elements.{All-from_get_or}
 use Rattle.digit_pack.specs.Layout.{Shape}
+use Rattle.snapshot_file.proofs.Pieces.{batch_count}
 use Rattle.version_store.specs.KeptRecords.{IsKept, KeptRecords, bytes_in_digits}
-use Rattle.version_store.proofs.Batches.{batch_count, few_more, kept_batch, bytes_batch}
+use Rattle.version_store.proofs.Batches.{few_more, kept_batch, bytes_batch}
 use Rattle.version_store.proofs.digit_records.DigitRecordsRecordSink.take_records.Goals as goal
 
 -- what is known of the bytes, by the layout inside
