@@ -30,8 +30,8 @@ use std::io::Read;
 use std::marker::Model;
 
 /// Of how many columns the records are read at a time: as many as have their digits, three in a
-/// word of four bytes, in one line of a processor's cache.
-const COLUMNS: usize = 48;
+/// word of four bytes, in four lines of a processor's cache.
+const COLUMNS: usize = 192;
 
 /// What a store is opened with: a snapshot that was read to its end, with the changes that were
 /// made in its records since, before any hint is made. A wide one keeps its records in their digits
