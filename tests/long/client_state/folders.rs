@@ -1,6 +1,6 @@
 //! What a real folder has after each call.
 
-use crate::{Folder, FolderFault, OldFolder};
+use client_state::{Folder, FolderFault, OldFolder};
 use client_core::{Hint, Plan, Scheme, ServerInfo};
 use hint_file::{HintError, file_name, parts_for};
 use matrix_u32::Matrix;

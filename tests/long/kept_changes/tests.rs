@@ -3,7 +3,7 @@
 
 ghost use Rattle.std.specs.Prelude.{◌≡◌, IfOk};
 
-use crate::{ChangesReply, hint_after, judged, rows_after};
+use kept_changes::{ChangesReply, hint_after, judged, rows_after};
 use change_file::{Block, Link, block_bytes, head_bytes, read_head};
 use client_core::{Hint, Plan, Scheme, ServerInfo};
 use frame_codec::{Bytes, Frame};

@@ -6,7 +6,7 @@ ghost use Rattle.snapshot_file.specs.Snapshots.{header_of};
 ghost use Rattle.version_store.specs.Openings.{IsSound};
 ghost use Rattle.log_replay.specs.Replays.{HasNoDraft};
 
-use crate::{ReplayFault, replay, replay_records};
+use log_replay::{ReplayFault, replay, replay_records};
 use matrix_u32::Plain;
 use publication_log::{Publication, PublicationBuilder};
 use std::alloc::Global;

@@ -1,7 +1,10 @@
 //! Noise and margins that were worked out apart from the code.
 //! Proved by `tests/long/run --prove`.
 
-use super::*;
+use noise_table::{
+    certain_is_quiet, fill_noise, is_certain, limits_ascend, noise_is_bounded, noise_of,
+};
+use seed_expand::WordSource;
 
 // Each magnitude begins at its limit, with either sign and whatever stands in the high bits.
 #[test]

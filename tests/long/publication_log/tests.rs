@@ -2,7 +2,7 @@
 
 ghost use Rattle.std.specs.Prelude.{◌≡◌, IfOk};
 
-use crate::{ChangeFault, LogHeader, PublicationBuilder};
+use publication_log::{ChangeFault, LogHeader, PublicationBuilder};
 use std::alloc::{AllocError, Global};
 
 // How many bytes the header has, and how many it has with the first publication of the example.

@@ -3,7 +3,7 @@
 ghost use Rattle.std.specs.Prelude.{IfOk};
 ghost use Rattle.log_replay.specs.Replays.{HasNoDraft};
 
-use crate::{Push, PushFault, PushStep};
+use publication_push::{Push, PushFault, PushStep};
 use client_core::ClientCore;
 use log_replay::{ReplayFault, replay_all};
 use matrix_u32::Plain;

@@ -1,8 +1,8 @@
 //! One retrieval worked out apart from the code.
 //! Proved by `tests/long/run --prove`.
 
-use super::*;
-use matrix_u32::Plain;
+use matrix_u32::{Kernel, Matrix, Plain};
+use regev_core::{encrypt, round, strip};
 use std::process::Abort;
 use std::test::Fail;
 

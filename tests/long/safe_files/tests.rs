@@ -1,7 +1,7 @@
 //! The steps of a replacement on a disk in memory. Those of which one fails, and what a real folder has after each, are in `tests`.
 //! Proved by `tests/long/run --prove`.
 
-use crate::{Bytes, Disk, DiskFailed, ReplaceFault, replace};
+use safe_files::{Bytes, Disk, DiskFailed, ReplaceFault, replace};
 use std::alloc::Global;
 use std::io;
 use std::io::{ErrorKind, Write};

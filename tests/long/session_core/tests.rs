@@ -1,7 +1,7 @@
 //! The session that the crate's page shows.
 //! Proved by `tests/long/run --prove`.
 
-use crate::{
+use session_core::{
     CallFault, ClientCore, Event, FeedError, Header, Kernel, Lanes, Plain, Scheme, ServerCore,
     SessionError, Store,
 };

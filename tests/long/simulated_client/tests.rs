@@ -1,7 +1,7 @@
 //! Runs over a real folder, with a server of a few records beside them.
 //! Proved by `tests/long/run --prove`.
 
-use crate::{ClientRun, RunEnd, RunStep};
+use simulated_client::{ClientRun, RunEnd, RunStep};
 use client_core::Scheme;
 use client_state::Folder;
 use lane_kernels::Lanes;

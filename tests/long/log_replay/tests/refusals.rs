@@ -1,7 +1,7 @@
 //! Each refusal of a publication, on a store and on a snapshot's records.
 
 use super::{fault_on_records, fault_on_store, snapshot};
-use crate::ReplayFault;
+use log_replay::ReplayFault;
 use publication_log::PublicationBuilder;
 use std::alloc::Global;
 use std::process::Abort;

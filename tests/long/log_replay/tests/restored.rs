@@ -1,7 +1,7 @@
 //! Stores that are restored from a snapshot and a log.
 
 use super::{is_sound, opened, snapshot};
-use crate::{draft_publication, earlier_count, replay_all, replay_first};
+use log_replay::{draft_publication, earlier_count, replay_all, replay_first};
 use matrix_u32::Plain;
 use publication_log::{
     Disk, DiskFailed, Log, LogHeader, PublicationBuilder, Publications, read_log, relinked,

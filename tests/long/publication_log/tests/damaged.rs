@@ -2,7 +2,7 @@
 
 use super::worked::example;
 use super::{FIRST_LEN, HEADER_LEN, header, part};
-use crate::{BadLog, LogHeader, ReadFault, read_log};
+use publication_log::{BadLog, LogHeader, ReadFault, read_log};
 use std::alloc::Global;
 use std::test::Fail;
 

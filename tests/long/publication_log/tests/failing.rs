@@ -4,7 +4,7 @@ ghost use Rattle.std.specs.Prelude.{◌≡◌, ◌+◌, IfOk};
 
 use super::worked::example;
 use super::{FIRST_LEN, HEADER_LEN, first, header};
-use crate::{
+use publication_log::{
     AppendFault, BadLog, CutFault, Disk, DiskFailed, Log, PublicationBuilder, ReadFault, read_log,
 };
 use std::alloc::Global;

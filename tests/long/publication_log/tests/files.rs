@@ -2,7 +2,7 @@
 
 use super::worked::example;
 use super::{FIRST_LEN, HEADER_LEN, first, header, part, second};
-use crate::{BadLog, OpenFault, open_log};
+use publication_log::{BadLog, OpenFault, open_log};
 use std::fs;
 use std::os::unix::fs::{PermissionsExt, symlink};
 use std::test::Fail;

@@ -1,7 +1,7 @@
 //! The example of docs/FORMATS.md, whose bytes were computed by Python's hashlib and struct, and the refusals of a builder.
 
 use super::{FIRST_LEN, HEADER_LEN, first, header, part};
-use crate::{
+use publication_log::{
     BodyFault, ChangeFault, Changes, Publication, PublicationBuilder, Publications, log_name,
     read_log,
 };

@@ -3,7 +3,7 @@
 ghost use Rattle.std.specs.Prelude.{[]};
 
 use super::{MemoryDisk, NEW, Name, OLD, replaced};
-use crate::{Content, ContentFault, ReplaceFault, replace};
+use safe_files::{Content, ContentFault, ReplaceFault, replace};
 use std::alloc::Global;
 use std::io::Write;
 use std::test::Fail;

@@ -1,7 +1,7 @@
 //! What a real folder has after replacements, and what is beside a file.
 
 use super::{NEW, OLD};
-use crate::{Bytes, FileLock, LockFault, Place, ReplaceFault, lock, open_file, remove_beside, replace, replace_file, settle};
+use safe_files::{Bytes, FileLock, LockFault, Place, ReplaceFault, lock, open_file, remove_beside, replace, replace_file, settle};
 use std::fs;
 use std::os::unix::fs::{PermissionsExt, symlink};
 use std::test::Fail;

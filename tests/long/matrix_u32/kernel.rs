@@ -1,7 +1,7 @@
 //! Products worked out apart from the code.
 //! Proved by `tests/long/run --prove`.
 
-use super::*;
+use matrix_u32::{Kernel, Matrix, Plain};
 use std::test::Fail;
 
 #[test]

@@ -1,7 +1,7 @@
 //! What a matrix holds, and what it is refused for.
 //! Proved by `tests/long/run --prove`.
 
-use super::*;
+use matrix_u32::{MAX_WORDS, Matrix, MatrixError};
 use std::test::Fail;
 
 #[test]
