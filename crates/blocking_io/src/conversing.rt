@@ -75,7 +75,7 @@ fn fault_of(fault: ClientFault) -> ConverseFault
     }
 }
 
-// Gives the client a piece, and writes what it says to it. Answers the first event, where there is
+// Gives the client a piece, and writes what it says to it. Returns the first event, where there is
 // one.
 fn feed_client<K: Kernel, C: Connection>(
     client: &mut ClientCore<K>,
@@ -99,7 +99,7 @@ fn feed_client<K: Kernel, C: Connection>(
 }
 
 /// Makes one turn of a client: reads a piece of at most 65,536 bytes, gives it to the client, and
-/// writes all that the client says to it. Answers the first event that came of it, or `None` where
+/// writes all that the client says to it. Returns the first event that came of it, or `None` where
 /// none did.
 ///
 /// `buffer` has room for a piece, as `connection_io::piece_buffer` makes it: what it held is lost.

@@ -64,7 +64,7 @@ impl ServeFault {
     }
 }
 
-// Gives the session the first frame of a piece, and writes what it is replied. Answers how many
+// Gives the session the first frame of a piece, and writes what it is replied. Returns how many
 // bytes of the piece are used up.
 fn answer_frame<K: Kernel, C: Connection>(
     core: &mut ServerCore<K>,
@@ -130,7 +130,7 @@ fn answer_piece<K: Kernel, C: Connection>(
 
 /// Makes one turn of session `id`: reads a piece of at most 65,536 bytes and serves it, frame by
 /// frame. The reply to each frame is written before the next one is looked at, so that one reply is
-/// kept at most. Answers how the session came to its end, or `None` where it is open still.
+/// kept at most. Returns how the session came to its end, or `None` where it is open still.
 ///
 /// `buffer` has room for a piece, as `connection_io::piece_buffer` makes it, and `out` is for the
 /// replies: what they held is lost.

@@ -121,7 +121,7 @@ fn retrieve<K: Kernel, R: Read, W: Write>(
 }
 
 /// Gives the server these bytes for record `index` of the next version: the publisher's hello,
-/// edit. Answers the current version, and spends no number. What is read and written is that of
+/// edit. Returns the current version, and spends no number. What is read and written is that of
 /// these calls, in their order, and of no other.
 ///
 /// # Errors
@@ -176,7 +176,7 @@ fn edit_record<K: Kernel, R: Read, W: Write>(
 }
 
 /// Gives the server these bytes as one record more of the next version: the publisher's hello,
-/// append. Answers the current version, and spends no number. What is read and written is that of
+/// append. Returns the current version, and spends no number. What is read and written is that of
 /// these calls, in their order, and of no other.
 ///
 /// # Errors
@@ -228,7 +228,7 @@ fn append_record<K: Kernel, R: Read, W: Write>(
     exchange(alloc, client, sent, reader, writer)
 }
 
-/// Makes the draft the next version: the publisher's hello, publish. Answers the new version, and
+/// Makes the draft the next version: the publisher's hello, publish. Returns the new version, and
 /// spends no number. What is read and written is that of these calls, in their order, and of no
 /// other.
 ///

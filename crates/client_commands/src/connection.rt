@@ -15,7 +15,7 @@ use std::io::{Read, Write};
 /// The most reads that one call makes.
 const TURNS: u64 = 1_000_000;
 
-/// Sends what a call gave, and answers the event that it brought. What the server said against it
+/// Sends what a call gave, and returns the event that it brought. What the server said against it
 /// is a failure.
 pub(crate) fn exchange<K: Kernel, R: Read, W: Write>(
     alloc: Global,

@@ -44,7 +44,7 @@ pub fn greet<K: Kernel, R: Read, W: Write>(
 
 /// Asks to be let in as a reader of an ordinary store, and, if the server refuses that for its
 /// profile (3), as one of a wide store. What is read and written is that of these one or two calls.
-/// It spends no number.
+/// No number is spent.
 ///
 /// # Errors
 ///
@@ -133,7 +133,7 @@ pub fn ask<K: Kernel, R: Read, W: Write>(
 }
 
 /// Goes on with a hint of which only the rows of record `index` need be right, asks for the record
-/// as [`ask`] does, and drops the hint: no sync is made over it. Answers none, and asks nothing,
+/// as [`ask`] does, and drops the hint: no sync is made over it. Returns none, and asks nothing,
 /// when it is no hint that the client may go on with. One number is spent at most, and the seed
 /// stays, as with [`greet`].
 ///

@@ -1,5 +1,5 @@
 //! What a client's commands do over a connection: each is let in, makes its calls one after
-//! another, and answers what the last one brought, or why it wasn't done.
+//! another, and returns what the last one brought, or why it wasn't done.
 //!
 //! A client whose seed is a fresh draw of the system's random source, and which counts its
 //! retrievals from 0, needs no number of an earlier run: `laws::only_equal_draws_meet`.

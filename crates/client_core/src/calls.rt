@@ -62,7 +62,7 @@ pub(crate) fn may_hello(state: &ClientState) -> Result<(), CallFault>
     Ok(())
 }
 
-/// The checks of `sync`, `edit`, `append` and `publish`, in their order. Answers what is known.
+/// The checks of `sync`, `edit`, `append` and `publish`, in their order. Returns what is known.
 pub(crate) fn may_change(state: &ClientState) -> Result<ServerInfo, CallFault>
     ensures { MatchResult result (λ k. (change_refusal state.now ≡ None) ×
         (state.now.known ≡ Some k)) (λ e. change_refusal state.now ≡ Some e) }
@@ -79,7 +79,7 @@ pub(crate) fn may_change(state: &ClientState) -> Result<ServerInfo, CallFault>
     Ok(known)
 }
 
-/// The checks of `ask`, in their order. Answers what is known.
+/// The checks of `ask`, in their order. Returns what is known.
 pub(crate) fn may_ask(state: &ClientState, index: u32) -> Result<ServerInfo, CallFault>
     ensures { MatchResult result (λ k. (refusal (ClientCall.Ask index) state.now ≡ None) ×
         (state.now.known ≡ Some k) × (index < k.count) × (state.now.number < 2 ^ 62))

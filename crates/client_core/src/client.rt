@@ -177,7 +177,7 @@ impl<K: Kernel> ClientCore<K> {
         }
     }
 
-    /// Goes on with what was saved of another client, once this one was let in. Answers whether its
+    /// Goes on with what was saved of another client, once this one was let in. Returns whether its
     /// hint is held now: it is, where the plan is equal, neither the version known then nor the
     /// hint's is later than the server's, the records were no more, and as many where the version
     /// is the same. Else the hint saved is dropped, and all is as it was. The number saved is left
@@ -279,7 +279,7 @@ impl<K: Kernel> ClientCore<K> {
     /// the first public matrix is made once for all of them, before any record is named. What comes
     /// of it is kept until other retrievals are prepared. An `ask` makes its query of it, if it was
     /// made for the number of that and the number of columns known then; else as if nothing were
-    /// prepared. Nothing is done before the Welcome, nor where the next retrieval is prepared.
+    /// prepared. Nothing is done before the Welcome, nor if the next retrieval is prepared.
     ///
     /// No call and no reply is another for it, and no number is spent. Only refused memory gives an
     /// `Err`, and then nothing is prepared.

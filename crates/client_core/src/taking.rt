@@ -150,7 +150,7 @@ fn take_one<K: Kernel>(
     react(reaction, out, events)
 }
 
-// Takes replies up to a bad one or to refused memory, and answers the fault.
+// Takes replies up to a bad one or to refused memory, and returns the fault.
 fn take_frames<K: Kernel>(
     alloc: Global,
     kernel: K,
@@ -192,7 +192,7 @@ fn fault_after(answer: Result<(), ReadFault>) -> Option<ClientFault>
 }
 
 /// Takes the frames of a piece, after which the codec answered `answer`. Adds the bytes to send and
-/// the events, and answers the fault.
+/// the events, and returns the fault.
 pub(crate) fn take_replies<K: Kernel>(
     alloc: Global,
     kernel: K,

@@ -1,5 +1,5 @@
-//! A folder of before, which had a seed, the number of the next retrieval, and one hint that named
-//! the seed.
+//! A folder in the earlier format, which had a seed, the number of the next retrieval, and one hint
+//! that named the seed.
 
 use crate::fault::FolderFault;
 use crate::files::{open_file, remove_file, unless_held};
@@ -7,17 +7,17 @@ use crate::folder::Folder;
 use hint_file::{HintError, KeptHint, read_old_hint};
 use safe_files::{FileLock, FileSystem, lock};
 
-/// The files of a folder of before, the secret one first, and what each begins with.
+/// The files of a folder in the earlier format, the secret one first, and what each begins with.
 const OLD_FILES: [(&str, [u8; 8]); 3] = [
     ("seed", *b"PIRSEED1"),
     ("counter", *b"PIRNEXT1"),
     ("hint", *b"PIRHINT2"),
 ];
 
-/// What else may stand in a folder of before: what a killed process left, and the lock last.
+/// What else may stand in a folder in the earlier format: what a killed process left, and the lock last.
 const LEFT_FILES: [&str; 4] = ["seed.new", "counter.new", "hint.new", "lock"];
 
-/// A folder of before that was taken over: its files are gone.
+/// A folder in the earlier format that was taken over: its files are gone.
 #[derive(Clone, Copy, Debug, PartialEq, Eq)]
 pub struct OldFolder {
     /// Whether its hint is kept.
@@ -25,7 +25,7 @@ pub struct OldFolder {
 }
 
 impl<R: FileSystem> Folder<'_, R> {
-    /// Takes a folder of before over, when this is one: its hint is kept, when it is a sound one,
+    /// Takes a folder in the earlier format over, if this is one: its hint is kept, when it is a sound one,
     /// and its seed, its counter, its hint and its lock are removed. None when this is no such
     /// folder, or another process uses it as one.
     ///
@@ -52,7 +52,7 @@ impl<R: FileSystem> Folder<'_, R> {
     }
 }
 
-// Whether a file of a folder of before stands there.
+// Whether a file of a folder in the earlier format is there.
 fn has_old<R: FileSystem>(folder: &Folder<'_, R>) -> Result<bool, FolderFault> {
     for (name, magic) in OLD_FILES {
         if is_old(folder, name, magic)? {
@@ -78,14 +78,14 @@ fn is_old<R: FileSystem>(
     }
 }
 
-// The lock of a folder of before; none when another process has it.
+// The lock of a folder in the earlier format; none if another process has it.
 fn old_lock<R: FileSystem>(folder: &Folder<'_, R>) -> Result<Option<FileLock<R>>, FolderFault> {
     let path = folder.path();
     let name = format!(in folder.rt().alloc(); "{path}/lock")?;
     unless_held(lock(folder.rt(), name.as_str()))
 }
 
-// Keeps the hint of a folder of before, when there is a sound one. Whether there was.
+// Keeps the hint of a folder in the earlier format, if there is a sound one. Whether there was.
 fn keep_old_hint<R: FileSystem>(folder: &Folder<'_, R>) -> Result<bool, FolderFault> {
     match old_hint(folder)? {
         Some(kept) => {

@@ -35,7 +35,7 @@ pub fn program_words(rt: &HostRuntime) -> Result<Vec<String>, u8>
     Ok(words)
 }
 
-// Says that memory was refused, and answers the status for it.
+// Says that memory was refused, and returns the status for it.
 fn no_memory(rt: &HostRuntime) -> u8
     ensures { result ≡ 4 }
 {

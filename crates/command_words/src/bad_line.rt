@@ -13,7 +13,7 @@ use std::alloc::{AllocError, AllocFailed};
 /// Why a command line asks for nothing that can be done.
 #[derive(Drop)]
 pub enum BadLine<'a> {
-    /// It is not of the program's form, or asks for help: the text that says so.
+    /// The line is not of the program's form, or asks for help: the text that says so.
     Form(Error),
     /// A value is not one that its option or word takes: what that takes. The value is not shown,
     /// since it may be a secret.
@@ -59,7 +59,7 @@ impl<'a, T: Drop> From<AllocFailed<T>> for BadLine<'a> {
 }
 
 impl BadLine<'_> {
-    /// Prints what is to be said, and answers the exit status: 0 for help, 2 for a bad command
+    /// Prints what is to be said, and returns the exit status: 0 for help, 2 for a bad command
     /// line, 3 for help that can't be printed and 4 for refused memory.
     pub fn report<R: Print + Eprint>(&self, rt: &R) -> u8
         ensures { Reports self.now result }
@@ -93,7 +93,7 @@ impl BadLine<'_> {
     }
 }
 
-// Says that help can't be printed, and answers the status for it.
+// Says that help can't be printed, and returns the status for it.
 fn unprinted<R: Eprint>(rt: &R) -> u8
     ensures { result ≡ 3 }
 {

@@ -32,7 +32,7 @@ impl Failed {
     }
 
     /// Prints the failure's line, and with `verbose` a second line with its cause, if there is one.
-    /// Answers the exit status.
+    /// Returns the exit status.
     pub fn report<R: Eprint>(&self, rt: &R, verbose: bool) -> u8
         ensures { result ≡ status_of self.now.failure }
     {

@@ -31,7 +31,7 @@ pub trait SecretFiles {
     ghost fails: { Self → List ℕ → Type 0 };
 
     /// Reads what a file begins with, as many bytes as there is room for or all of them, and
-    /// answers how many these are; `None` if it can't be read.
+    /// returns how many these are; `None` if it can't be read.
     fn read_start(&self, name: &str, out: &mut [u8]) -> Option<usize>
         ensures within { IfSome result (λ n. n ≤ length out.old) }
         ensures start { MatchOption result (fails self.now name.now)

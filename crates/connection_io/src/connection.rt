@@ -13,13 +13,13 @@ pub trait Connection {
     /// Relates the connection before a call, what came of the call, and the connection after it.
     ghost does: { Self → Call → Self → Type 0 } = { λ _ _ _. ⊤ };
 
-    /// Reads into the start of the buffer, and answers how many bytes came. 0 is the end, where
+    /// Reads into the start of the buffer, and returns how many bytes came. 0 is the end, where
     /// there is room.
     fn read(&mut self, buffer: &mut [u8]) -> Result<usize, ReadFailed>
         ensures within { IfOk result (λ n. n ≤ length buffer.new) }
         ensures did { does self.old (read_call result buffer.new) self.new };
 
-    /// Writes some bytes from their start on, and answers how many were taken: one at least, where
+    /// Writes some bytes from their start on, and returns how many were taken: one at least, where
     /// there are any.
     fn write(&mut self, bytes: &[u8]) -> Result<usize, WriteFailed>
         ensures within { IfOk result (λ n. n ≤ length bytes.now) }
@@ -27,7 +27,7 @@ pub trait Connection {
         ensures did { does self.old (write_call result bytes.now) self.new };
 }
 
-/// Reads a piece into the start of the buffer, in one read, and answers how many bytes it has. 0 is
+/// Reads a piece into the start of the buffer, in one read, and returns how many bytes it has. 0 is
 /// the end, where there is room.
 ///
 /// # Errors

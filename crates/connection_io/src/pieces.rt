@@ -46,7 +46,7 @@ pub fn piece_buffer(alloc: Global) -> Result<Vec<u8>, AllocError>
     Vec::from_elem(alloc, 0u8, PIECE_LEN)
 }
 
-/// Reads a piece into the beginning of the buffer, and answers how many bytes it has. 0 is the end.
+/// Reads a piece into the beginning of the buffer, and returns how many bytes it has. 0 is the end.
 pub fn read_piece<R: Read>(reader: &mut R, buffer: &mut Vec<u8>) -> Result<usize, ReadFailed>
     requires { 0 < length buffer.old.items }
     ensures piece { IfOk result (λ n. Consumes (R.remaining reader.old) (R.remaining reader.new)

@@ -43,7 +43,7 @@ pub struct Connection {
     pub lingers: Option<u64>,
     /// How many bytes its session keeps of an unfinished frame, and how many are owed.
     pub held: usize,
-    /// It will have its turn in this round, or the next one.
+    /// Whether this connection has its turn in this round or the next one.
     pub queued: bool,
     /// What was seen of it.
     pub watch: Watch,
@@ -56,11 +56,11 @@ pub enum TurnResult {
     Busy,
     /// Its frame was put off: there is more to do at once, and the frame goes on waiting.
     PutOff,
-    /// It waits for its socket.
+    /// The connection waits for its socket.
     Waits,
     /// The connection came to its end.
     Over,
-    /// It is to be closed before that.
+    /// The connection is to be closed before its end.
     Closed(Closing),
 }
 

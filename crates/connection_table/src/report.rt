@@ -39,7 +39,7 @@ impl RunFault {
 /// Why a connection was closed before its session had come to its end.
 #[derive(Clone, Copy, Debug, PartialEq, Eq)]
 pub enum Closing {
-    /// It could not be accepted.
+    /// No connection could be accepted.
     Connect,
     /// A turn ended with a fault.
     Turn(Fault),

@@ -163,7 +163,7 @@ impl ConnectionTable {
     }
 
     /// Notes that the connection at a place will have its turn, and whether its socket may be read
-    /// or written. Answers whether there is one that was not to have its turn before.
+    /// or written. Returns whether there is one that was not to have its turn before.
     pub fn note(&mut self, place: usize, readable: bool, writable: bool) -> bool
         ensures new { IsTrue result ↔ IsSomeAnd
             (connection_at self.old.connections.items place) (λ c. c.queued ≡ false) }

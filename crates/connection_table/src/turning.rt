@@ -51,7 +51,7 @@ impl Connection {
         Ok((server, outcome))
     }
 
-    /// Notes after a turn how much is held for it, and answers what is to be done with it: one that
+    /// Notes after a turn how much is held for it, and returns what is to be done with it: one that
     /// would go on is closed where it is idle, and its writing is ended if the service stops and
     /// nothing of it is left to be served.
     pub fn end_turn<S: Saver>(

@@ -17,9 +17,9 @@ use thiserror::Error;
 /// What became of the frame at hand in a turn.
 #[derive(Clone, Copy, Debug, PartialEq, Eq)]
 pub enum Served {
-    /// It was served, or none may be.
+    /// The frame was served, or none may be.
     Done,
-    /// It was put off: nothing was served, and its bytes are still there for the next turn.
+    /// The frame was put off: nothing was served, and its bytes are still there for the next turn.
     PutOff,
 }
 

@@ -38,7 +38,7 @@ pub struct Ended {
     pub events: Vec<Event>,
 }
 
-/// The program: answers the exit status.
+/// The program: returns the exit status.
 pub fn simulate(rt: &HostRuntime) -> u8 {
     let words = match program_words(rt) {
         Ok(words) => words,

@@ -84,7 +84,7 @@ impl Possible {
 pub enum Command {
     /// A change was drafted.
     Drafted,
-    /// This version was published.
+    /// The draft was published, as this version.
     Published(u64),
     /// The log was made shorter.
     Compacted,

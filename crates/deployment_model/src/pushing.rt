@@ -18,7 +18,7 @@ pub enum PushEnd {
     Pushed(u64),
     /// The log begins after its version.
     BeforeLog,
-    /// It was left as it was, for this reason.
+    /// The server was left as it was, for this reason.
     Left(&'static str),
 }
 

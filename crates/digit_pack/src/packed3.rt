@@ -173,7 +173,7 @@ impl<const MOST: usize> DigitStore for PackedDigits<MOST> {
         swap_packed(&mut self.words, self.rows, self.cols, first, j, others);
     }
 
-    /// It takes memory only where a row becomes more words.
+    /// Takes memory only if a row becomes more words.
     fn grow(&mut self, cols: usize) -> Result<(), MatrixError> {
         judge_size(MOST, self.rows, cols)?;
         let (from, to) = (row_words(self.cols), row_words(cols));

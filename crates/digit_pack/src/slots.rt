@@ -18,7 +18,7 @@ use thiserror::Error;
 pub struct BadSlot;
 
 /// Writes a record into a slot: its length in two bytes, the lower one first, its bytes, and zeros.
-/// It takes no memory.
+/// Takes no memory.
 pub fn fill_slot(bytes: &[u8], slot: &mut [u8])
     requires fits { length bytes.now + 2 ≤ length slot.old }
     requires short { length bytes.now < 2 ^ 16 }
@@ -78,7 +78,7 @@ pub fn write_slot(layout: &Layout, bytes: &mut [u8], i: usize, written: &[u8])
 }
 
 /// Whether the bytes of each record are a slot, of records that stand one after another in `bytes`.
-/// It takes no memory.
+/// Takes no memory.
 pub fn are_slots(layout: &Layout, bytes: &[u8]) -> bool
     requires { length bytes.now ≡ layout.now.count * layout.now.record_len }
     ensures { result ≡ list_all is_slot (records_in layout.now bytes.now) }

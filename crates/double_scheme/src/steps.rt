@@ -194,7 +194,7 @@ fn end_part<K: Kernel, S: DigitStore>(
 }
 
 // Ends a part and, if there is one, the part after it, of which all rows of the server's hint are
-// there. Answers the part that is next.
+// there. Returns the part that is next.
 fn end_both<K: Kernel, S: DigitStore>(
     kernel: K,
     layout: &Layout,
@@ -263,7 +263,7 @@ fn put_first_hint<K: Kernel>(
     prefix.copy_from_slice(hint);
 }
 
-// Writes the words of some more rows of the first layer's answer, if any is left, and answers how
+// Writes the words of some more rows of the first layer's answer, if any is left, and returns how
 // many are there then.
 fn put_column_rows<K: Kernel, S: DigitStore>(
     kernel: K,
@@ -301,7 +301,7 @@ fn put_column_rows<K: Kernel, S: DigitStore>(
 }
 
 // Writes the words of some more rows of the server's hint, if any is left, for a part and, if there
-// is one, for the part after it, and answers how many are there then.
+// is one, for the part after it, and returns how many are there then.
 fn put_part_rows<K: Kernel, S: DigitStore>(
     kernel: K,
     layout: &Layout,
@@ -374,7 +374,7 @@ impl AnswerSteps {
         })
     }
 
-    /// Makes one more step of the answer to the words of a query, and answers whether no step is
+    /// Makes one more step of the answer to the words of a query, and returns whether no step is
     /// left: then it is whole. The digits, the server's hint, the second public matrix and the
     /// query are the same in all steps. Each step makes a row more at least, so that the steps come
     /// to an end.
@@ -422,7 +422,7 @@ impl AnswerSteps {
         }
     }
 
-    // Makes some more rows, which have so many digits at most, unless one has more, and answers how
+    // Makes some more rows, which have so many digits at most, unless one has more, and returns how
     // many were read.
     fn advance<K: Kernel, S: DigitStore>(
         &mut self,

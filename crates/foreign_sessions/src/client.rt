@@ -253,7 +253,7 @@ impl ClientSession {
         Ok(())
     }
 
-    /// [`ClientCore::resume`] with the hint of a file, of which these are all bytes. Answers
+    /// [`ClientCore::resume`] with the hint of a file, of which these are all bytes. Returns
     /// whether its hint is held now.
     ///
     /// The file's faults come first, `Damaged` exactly when the bytes are no file of a hint; then

@@ -107,7 +107,7 @@ impl ServerSession {
     }
 
     /// [`ServerCore::feed_frame`], whose reply waits from then on: serves one frame at most, and
-    /// answers how many bytes of the piece it took. These are all, or those up to the end of the
+    /// returns how many bytes of the piece it took. These are all, or those up to the end of the
     /// first frame that they make whole; the rest is for a later call. So no more than one reply
     /// waits at a time, whatever a piece asks for. `Untaken` exactly when replies wait already, and
     /// then nothing changes; else as the server answers.

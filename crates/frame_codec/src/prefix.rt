@@ -88,7 +88,7 @@ fn header_of(first: &[u8], rest: &[u8]) -> ([u8; HEADER_LEN], usize)
 }
 
 /// Copies the first bytes of two slices, one after the other: as many as there is space for, or
-/// all. Answers how many.
+/// all. Returns how many.
 pub fn fill_front(space: &mut [u8], first: &[u8], rest: &[u8]) -> usize
     ensures within { result ≤ length space.old }
     ensures len { length space.new ≡ length space.old }

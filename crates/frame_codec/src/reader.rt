@@ -183,7 +183,7 @@ impl Reader {
     }
 
     /// Takes the next piece of the stream up to the end of the first frame that is whole then, and
-    /// answers that frame and how many bytes were taken. Where no frame is whole the whole piece
+    /// returns that frame and how many bytes were taken. Where no frame is whole the whole piece
     /// was taken.
     ///
     /// # Errors
@@ -328,7 +328,7 @@ fn finish<'a>(
     Ok(Some((frame, rest)))
 }
 
-/// Gives an unfinished frame what it lacks: its header and its payload. Answers the rest of the
+/// Gives an unfinished frame what it lacks: its header and its payload. Returns the rest of the
 /// piece. The header is judged before memory is taken, and so is the length of a payload that is
 /// whole now, so that a fault of these is never answered as `Memory`.
 fn fill<'a>(wide: bool, pending: &mut Vec<u8>, piece: &'a [u8]) -> Result<&'a [u8], ReadFault>

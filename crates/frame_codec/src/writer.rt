@@ -285,8 +285,8 @@ fn put_head(out: &mut Vec<u8>, kind: u8, len: usize) -> Result<(), AllocError>
 
 /// Adds the encoding of a frame to `out`.
 ///
-/// It fails only where `out` has less room than the encoding needs and more is refused; `out` is
-/// then as it was.
+/// Fails only if `out` has less room than the encoding needs and more is refused; `out` is then
+/// as it was.
 #[tactic(auto, using(crate::proofs::Prefixes::encoded_length, crate::proofs::Payloads::payload_sized), unfolding(crate::specs::Frames::encoding))]
 pub fn write_frame(frame: &Frame, out: &mut Vec<u8>) -> Result<(), AllocError>
     requires { payload_size frame.now ≤ payload_limit }
@@ -307,8 +307,8 @@ pub fn write_frame(frame: &Frame, out: &mut Vec<u8>) -> Result<(), AllocError>
 
 /// Adds the encoding of a part of a hint, whose words are lent, so that no copy of them is made.
 ///
-/// It fails only where `out` has less room than the encoding needs and more is refused; `out` is
-/// then as it was.
+/// Fails only if `out` has less room than the encoding needs and more is refused; `out` is then
+/// as it was.
 #[tactic(auto, using(crate::proofs::Prefixes::encoded_length, crate::proofs::Payloads::payload_sized), unfolding(crate::specs::Frames::encoding))]
 pub fn write_hint_part(
     scheme: u8,

@@ -55,7 +55,7 @@ fn read_bytes<R: Read>(alloc: Global, reader: &mut R, len: usize) -> Result<Vec<
     }
 }
 
-// What the file of a hint of before begins with.
+// What a hint file in the earlier format begins with.
 #[tactic(auto, unfolding(crate::specs::Files::old_hint_magic))]
 fn old_magic() -> [u8; MAGIC_LEN]
     ensures { result ≡ old_hint_magic }
@@ -245,11 +245,13 @@ pub fn read_hint<R: Read>(alloc: Global, reader: &mut R) -> Result<KeptHint, Hin
     read_named(alloc, &begins, 0, reader)
 }
 
-/// The hint whose file of before the reader gives up to its end, whichever seed it names.
+/// The hint whose file in the earlier format the reader gives up to its end, whichever seed it
+/// names.
 ///
 /// # Errors
 ///
-/// As of [`read_hint`]: `Damaged` exactly when the bytes are no file of before of a hint.
+/// As of [`read_hint`]: `Damaged` exactly when the bytes are no hint file in the earlier
+/// format.
 pub fn read_old_hint<R: Read>(alloc: Global, reader: &mut R) -> Result<KeptHint, HintError>
     ensures read { IfOk result (λ kept. IfSome (R.remaining reader.old)
         (λ bytes. (name : List ℕ) × (length name ≡ 32)

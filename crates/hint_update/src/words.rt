@@ -130,7 +130,7 @@ fn put_weights(weights: &mut [u32], w: u32)
 }
 
 // Writes a number for each listed row, so that words change by multiples of them, where there are
-// such numbers, and answers the place of one that is 1; where nothing changes, or too few rows do,
+// such numbers, and returns the place of one that is 1; where nothing changes, or too few rows do,
 // all are 0. They are the changes of one of the first words, divided modulo 2^32 by the one that is
 // divisible by the lowest power of two. What the division by that power leaves open no multiple
 // shows, as each change is divisible by it.

@@ -28,7 +28,7 @@ use version_store::{EditError, Store};
 /// Why a publication was not replayed.
 #[derive(Clone, Copy, Debug, PartialEq, Eq, Error)]
 pub enum ReplayFault {
-    /// It does not follow: its version is not the next one, it changes nothing, or one of its
+    /// The publication does not follow: its version is not the next one, it changes nothing, or one of its
     /// changes can't be made, because its place is past the next one, its bytes can't be a record,
     /// or no layout has one record more.
     #[error("the publication does not follow the version before it")]

@@ -49,7 +49,7 @@ impl From<AllocError> for MatrixError {
 
 /// A matrix of 32-bit words, kept row by row. A contract sees it as a `WordMatrix`.
 ///
-/// It never holds more than [`MAX_WORDS`] words, and always exactly rows times columns.
+/// Never holds more than [`MAX_WORDS`] words, and always exactly rows times columns.
 #[derive(Drop)]
 pub struct Matrix {
     rows: usize,

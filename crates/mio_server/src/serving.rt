@@ -168,7 +168,7 @@ fn listen_for_status(
     }
 }
 
-// Prints where the service listens, and answers that, and where those who ask are listened for.
+// Prints where the service listens, and returns that, and where those who ask are listened for.
 fn print_addresses(
     rt: &HostRuntime,
     service: &Service,
@@ -282,7 +282,7 @@ fn bind(rt: &HostRuntime, poll: &Poll, address: SocketAddr) -> io::Result<TcpLis
     Ok(listener)
 }
 
-// Waits so many milliseconds at most for events. Answers when it is then, in milliseconds since the
+// Waits so many milliseconds at most for events. Returns when it is then, in milliseconds since the
 // start.
 fn await_events(
     rt: &HostRuntime,
@@ -337,7 +337,7 @@ impl Service {
     }
 
     // What comes after the turns of a round: those who ask have their part, and the service stops
-    // if its input has ended. Answers how long the next round waits for events; nothing if the
+    // if its input has ended. Returns how long the next round waits for events; nothing if the
     // service is over.
     fn end_round<S: Saver>(
         &mut self,

@@ -13,7 +13,7 @@ use session_core::{ClientCore, Lanes, Scheme};
 use std::io;
 use world_script::{RehearseFault, rehearse};
 
-/// The program: reads its command line, does what it asks for, and answers the exit status.
+/// The program: reads its command line, does what it asks for, and returns the exit status.
 pub fn run(rt: &HostRuntime) -> u8 {
     if let Err(failure) = open_standard_descriptors() {
         return Failed::from(failure).report(rt, false);
@@ -32,7 +32,7 @@ pub fn run(rt: &HostRuntime) -> u8 {
     }
 }
 
-// Does what was asked for, prints what came of it, and answers the exit status.
+// Does what was asked for, prints what came of it, and returns the exit status.
 fn run_task(rt: &HostRuntime, task: Task<'_>) -> Result<u8, Failed>
     requires { TaskFits task }
 {

@@ -11,7 +11,7 @@ use publisher_words::{Adding, Beginning, Setting, Showing, Task, task_of};
 /// The exit status of an import with a bad line.
 const BAD_LINE: u8 = 3;
 
-/// The program: reads its command line, does what it asks for, and answers the exit status.
+/// The program: reads its command line, does what it asks for, and returns the exit status.
 pub fn run(rt: &HostRuntime) -> u8 {
     if let Err(failure) = open_standard_descriptors() {
         return Failed::from(failure).report(rt, false);
@@ -75,7 +75,7 @@ fn publish_draft(rt: &HostRuntime, dir: &str) -> Result<(), Failed> {
     printed(rt, println!(rt; "published {version}"))
 }
 
-// Imports the lines on standard input, and answers the exit status.
+// Imports the lines on standard input, and returns the exit status.
 fn import_lines(rt: &HostRuntime, dir: &str, verbose: bool) -> u8 {
     match import(rt, dir) {
         Ok(drafted) => match say_drafted(rt, drafted) {
@@ -87,7 +87,7 @@ fn import_lines(rt: &HostRuntime, dir: &str, verbose: bool) -> u8 {
     }
 }
 
-// Says which line of an import is bad, and answers the exit status.
+// Says which line of an import is bad, and returns the exit status.
 fn bad_line(rt: &HostRuntime, number: u64, fault: LineFault, verbose: bool) -> u8 {
     let _ = eprintln!(rt; "line {number}: bad");
     if verbose {

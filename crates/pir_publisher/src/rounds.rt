@@ -114,7 +114,7 @@ impl Rounds {
     }
 
     /// Has these servers their part side by side, each of which may say nothing for so many
-    /// milliseconds, and answers how it ended with each, in their order.
+    /// milliseconds, and returns how it ended with each, in their order.
     ///
     /// # Errors
     ///
@@ -165,7 +165,7 @@ impl Rounds {
         }
     }
 
-    // Gives each server's connection a turn. Answers whether one is left, and whether one has more
+    // Gives each server's connection a turn. Returns whether one is left, and whether one has more
     // to do at once.
     fn turns<'a>(
         &mut self,
@@ -189,7 +189,7 @@ impl Rounds {
     }
 
     // Gives a connection a turn, if there is one, and takes it away when its part has ended, which
-    // it answers how.
+    // it returns how.
     fn turn<'a>(
         &mut self,
         round: &Round<'a>,

@@ -142,7 +142,7 @@ impl<'a> Talk<'a> {
         self.writable = self.writable || writable;
     }
 
-    /// Sends and takes what there is, at a moment. Answers how the server's part ended, if it did.
+    /// Sends and takes what there is, at a moment. Returns how the server's part ended, if it did.
     pub fn turn(&mut self, round: &Round<'a>, now: u64, buffer: &mut [u8]) -> Option<End> {
         if let Err(cause) = self.send(now) {
             return Some(End::Left(cause));

@@ -39,7 +39,7 @@ impl Watched {
         !matches!(self.said, Some(End::Left(_)))
     }
 
-    // Notes how its part in a round ended. Answers whether that is news.
+    // Notes how its part in a round ended. Returns whether that is news.
     fn note(&mut self, end: End, now: u64) -> bool {
         let is_news = self.said != Some(end);
         self.said = Some(end);
@@ -55,7 +55,7 @@ impl Watched {
 }
 
 /// Keeps servers at a folder's version, and prints a line when one comes to it or is left as it is.
-/// This ends when the process is killed.
+/// Ends when the process is killed.
 ///
 /// # Errors
 ///

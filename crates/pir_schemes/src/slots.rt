@@ -95,7 +95,7 @@ impl Plan {
         }
     }
 
-    /// Moves the record that has these bytes in the digits to their beginning, and answers how many
+    /// Moves the record that has these bytes in the digits to their beginning, and returns how many
     /// bytes it has. What follows it is not said. It takes no memory.
     #[tactic(auto, unfolding(crate::specs::Plans::content, crate::specs::Plans::is_slot_of))]
     pub fn move_content(&self, bytes: &mut [u8]) -> usize

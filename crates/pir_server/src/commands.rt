@@ -16,7 +16,7 @@ use std::io;
 /// The most reads that `once` makes.
 const TURNS: u64 = 1_000_000;
 
-/// The program: reads its command line, does what it asks for, and answers the exit status.
+/// The program: reads its command line, does what it asks for, and returns the exit status.
 pub fn run(rt: &HostRuntime) -> u8 {
     if let Err(failure) = open_standard_descriptors() {
         return Failed::from(failure).report(rt, false);
@@ -36,7 +36,7 @@ pub fn run(rt: &HostRuntime) -> u8 {
     }
 }
 
-// Says why a server that ran has ended, and answers the exit status. Nobody is waited for who is to
+// Says why a server that ran has ended, and returns the exit status. Nobody is waited for who is to
 // read it: a server that has failed is to end.
 fn said(rt: &HostRuntime, failed: &Failed, verbose: bool) -> u8 {
     let failure = failed.failure;
@@ -67,13 +67,13 @@ fn run_task(rt: &HostRuntime, task: Task<'_>) -> Result<(), Failed> {
     }
 }
 
-// Makes a snapshot file, and answers how many records it has and its version.
+// Makes a snapshot file, and returns how many records it has and its version.
 fn make_file(rt: &HostRuntime, making: &Making<'_>) -> Result<(), Failed> {
     let count = make(rt, making)?;
     printed(rt, println!(rt; "made {count} 1"))
 }
 
-// Moves the records of a snapshot file into slots, and answers how many there are and their
+// Moves the records of a snapshot file into slots, and returns how many there are and their
 // version.
 fn migrate_file(rt: &HostRuntime, migrating: &Migrating<'_>) -> Result<(), Failed> {
     let mut out = match OwnFile::to_write(rt, migrating.out) {
@@ -92,7 +92,7 @@ fn migrate_file(rt: &HostRuntime, migrating: &Migrating<'_>) -> Result<(), Faile
     printed(rt, println!(rt; "migrated {count} {version}"))
 }
 
-// Puts the records of a snapshot file into a wide store, and answers how many there are and their
+// Puts the records of a snapshot file into a wide store, and returns how many there are and their
 // version.
 fn widen_file(rt: &HostRuntime, widening: &Widening<'_>) -> Result<(), Failed> {
     let seed = widening

@@ -58,8 +58,8 @@ impl<K: Kernel> World<K> {
     /// The world of a snapshot's store and a client for each seed. Client k has session k, and its
     /// first retrieval has number 0.
     ///
-    /// It is refused as `Store::open` refuses the snapshot: `BadLayout`, `BadVersion`,
-    /// `BadRecords`, `Memory`.
+    /// Refused as `Store::open` refuses the snapshot: `BadLayout`, `BadVersion`, `BadRecords`,
+    /// `Memory`.
     pub fn new(
         alloc: Global,
         kernel: K,
@@ -101,7 +101,7 @@ impl<K: Kernel> World<K> {
     /// What came of the steps so far, in order: the accepted and refused edits, appends and
     /// publications, the events, the refused calls and the faults.
     ///
-    /// They are those of a run of the steps, also in a world that was refused memory in a later
+    /// The outcomes are those of a run of the steps, also in a world that was refused memory in a later
     /// step, and all of it is right: an answered retrieval whose noise sums stay below half of
     /// delta gave exactly its record's bytes in the version that its hint names, and a query was
     /// refused as stale, with the current version, exactly when it named another. The log of the

@@ -36,7 +36,7 @@ pub fn relinked(
     Ok(bytes)
 }
 
-// Adds the entry of a body, and answers the link after it. After an `Err` a part of the entry may
+// Adds the entry of a body, and returns the link after it. After an `Err` a part of the entry may
 // be there.
 fn push_entry(
     bytes: &mut Vec<u8>,

@@ -9,7 +9,7 @@ use Rattle.frame_codec.specs.Refusals.{code_of}
 use Rattle.version_store.specs.Histories.{History, current_version, after_edit, after_append, published}
 use Rattle.server_core.specs.declared.standing.Standing.{Standing}
 use Rattle.server_core.specs.declared.standing.Standing.TheVariants.{Stranger, Reader, Publisher, Closed}
-use Rattle.server_core.specs.Serving.{Setting, Outcome, refuses, welcomes, is_closed, is_granted, is_reader_key, is_publisher_key, IsOutcome, ServesAll}
+use Rattle.server_core.specs.Serving.{Setting, Outcome, refuses, welcomes, is_closed, may_lack_memory, is_reader_key, is_publisher_key, IsOutcome, ServesAll}
 use Rattle.publication_push.specs.Orders.{Ordered, Edits, Appends, Publishes, frame_of}
 use Rattle.publication_push.specs.Laws.{dones}
 
@@ -160,7 +160,7 @@ greeted x h profile key o (inr (takes, e)) =
     absurd (let no : true ≡ false = sym takes ∙ ungranted _ (is_reader_key key) (is_publisher_key x key) in cc)
   where
     ungranted : (a b c : Bool) →
-        is_granted (cond a (cond b (welcomes x Reader h) (cond c (welcomes x Publisher h) (refuses BadKey Stranger h))) (refuses BadProfile Stranger h)).reply
+        may_lack_memory (cond a (cond b (welcomes x Reader h) (cond c (welcomes x Publisher h) (refuses BadKey Stranger h))) (refuses BadProfile Stranger h)).reply
         ≡ false
     ungranted false b c = refl
     ungranted true true c = refl

@@ -12,7 +12,7 @@ use std::collections::BTreeMap;
 /// Why a line was refused.
 #[derive(Clone, Copy, Debug, PartialEq, Eq)]
 pub enum LineFault {
-    /// It is none of an import's.
+    /// The line is none of an import's.
     Form,
     /// Its change can't be made.
     Edit(EditFault),

@@ -52,7 +52,7 @@ pub fn open_draft<'a, R: FileSystem>(rt: &'a R, dir: &str) -> Result<OpenDraft<'
     })
 }
 
-/// Appends these changes to a draft, as one entry, and answers how many places the draft changes
+/// Appends these changes to a draft, as one entry, and returns how many places the draft changes
 /// then. No changes are no entry.
 ///
 /// # Errors

@@ -216,7 +216,7 @@ pub fn publication_after(
     }
 }
 
-/// Appends a publication to a log, and answers the version that the log has then. If that fails,
+/// Appends a publication to a log, and returns the version that the log has then. If that fails,
 /// what it left is cut off.
 ///
 /// # Errors

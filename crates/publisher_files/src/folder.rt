@@ -74,7 +74,7 @@ pub fn lock_folder<'a, R: FileSystem>(
 }
 
 /// Makes a folder if there is none, and in it the snapshot of version 1 of the records on standard
-/// input. Answers how many there are.
+/// input. Returns how many there are.
 ///
 /// # Errors
 ///

@@ -16,7 +16,7 @@ pub enum ImportFault {
         /// Why.
         fault: LineFault,
     },
-    /// It failed otherwise.
+    /// The import failed otherwise.
     Failed(Failed),
 }
 

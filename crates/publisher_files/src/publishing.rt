@@ -21,7 +21,7 @@ use session_core::Snapshot;
 const NOTHING_TO_PUBLISH: Failure = Failure::Fault("NothingToPublish");
 
 /// Makes a folder's draft the next version: appends its changes to the log as one publication, and
-/// removes the draft. Answers the version that snapshot and log have then.
+/// removes the draft. Returns the version that snapshot and log have then.
 ///
 /// # Errors
 ///

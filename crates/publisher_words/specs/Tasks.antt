@@ -15,8 +15,7 @@ abbrev pub IsRecordGiven : Found → List ℕ → List ℕ → Type 0
 IsRecordGiven found name bytes =
     MatchOption (first_value found name) ⊥ (λ text. (bytes_in text ≡ Some bytes) × (length bytes ≤ 65535))
 
--- the beginning of a folder, as the options of `init` ask for it, but whether is said how much was
--- read
+-- the beginning of a folder, as the options of `init` ask for it; of `--progress` nothing is said
 abbrev pub ReadsInit : Found → Beginning → Type 0
 ReadsInit found beginning =
     (first_value found (codes "dir") ≡ Some beginning.dir.now) × IsNumberOr 1 found (codes "form") beginning.making.form

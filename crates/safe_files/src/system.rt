@@ -15,7 +15,7 @@ const OTHERS: u32 = 0o077;
 /// has that of the system; one that stands in for it can lose, cut and refuse what it likes, and is
 /// what a simulation runs the same code on.
 pub trait FileSystem: Files + AllocGlobal + RandomSource + Clone + Copy + Drop {
-    /// Reads some bytes at a place, and answers how many came. Where the file is read next stays.
+    /// Reads some bytes at a place, and returns how many came. Where the file is read next stays.
     fn read_at(&self, file: &Self::File, buffer: &mut [u8], at: u64) -> io::Result<usize>
         ensures bound { ReadsAtMost result buffer.new };
 

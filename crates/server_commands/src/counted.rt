@@ -15,7 +15,7 @@ use std::alloc::Global;
 use std::io::Read;
 
 /// Makes a snapshot file of version 1 of the records on standard input, which are to be as many as
-/// the header says, and answers how many there are. They pass through a few buffers, and stand
+/// the header says, and returns how many there are. They pass through a few buffers, and stand
 /// nowhere as a whole.
 ///
 /// # Errors
@@ -117,7 +117,7 @@ fn bad_input(alloc: Global, header: &Header, fault: InputFault) -> Failed {
     Failed::by(BAD_RECORDS, cause)
 }
 
-// Reads to the end, and answers how many bytes came; none where there are more than so many.
+// Reads to the end, and returns how many bytes came; none where there are more than so many.
 fn rest_of<R: Read>(alloc: Global, reader: &mut R, most: usize) -> Result<Option<usize>, Failed>
     ensures { IfOk result (λ found. IfSome found (λ n. (n ≤ most)
         × IsReadWhole n (R.remaining reader.old) (R.remaining reader.new))) }

@@ -45,7 +45,7 @@ pub struct Keys {
     publisher: [u8; 32],
 }
 
-/// Makes a snapshot file of version 1 of the records on standard input, and answers how many there
+/// Makes a snapshot file of version 1 of the records on standard input, and returns how many there
 /// are. No hint is made for it.
 ///
 /// # Errors
@@ -129,7 +129,7 @@ fn make_of_lines(rt: &HostRuntime, making: &Making<'_>, keys: &Keys) -> Result<u
     write_made(rt, making, &header, &records)
 }
 
-// Writes the file, and answers how many records it has.
+// Writes the file, and returns how many records it has.
 fn write_made(
     rt: &HostRuntime,
     making: &Making<'_>,

@@ -83,7 +83,7 @@ fn serve_all(
     Ok(())
 }
 
-// Saves the current version, unless the file has it, and answers what it has then.
+// Saves the current version, unless the file has it, and returns what it has then.
 fn save_published(
     rt: &HostRuntime,
     file: &mut OwnFile<'_>,

@@ -74,7 +74,7 @@ impl<R: Read + Drop> SlotReader<R> {
         }
     }
 
-    // Makes the slot of the next line, and answers whether there is one.
+    // Makes the slot of the next line, and returns whether there is one.
     fn next_slot(&mut self) -> Result<bool, Failed> {
         if !self.next_line()? {
             return Ok(false);
@@ -85,7 +85,7 @@ impl<R: Read + Drop> SlotReader<R> {
         Ok(true)
     }
 
-    // Reads the next line, without its end, and answers whether there is one. The last one may lack
+    // Reads the next line, without its end, and returns whether there is one. The last one may lack
     // its line feed.
     fn next_line(&mut self) -> Result<bool, Failed> {
         self.line.clear();
@@ -153,7 +153,7 @@ impl<R: Read + Drop> Read for SlotReader<R> {
     }
 }
 
-// Copies the bytes of a slot after the first ones, as many as there is room for, and answers how
+// Copies the bytes of a slot after the first ones, as many as there is room for, and returns how
 // many these are.
 fn give_out(slot: &[u8], given: usize, buffer: &mut [u8]) -> usize
     ensures count { result ≡ min (length slot.now - given) (length buffer.old) }

@@ -4,11 +4,11 @@ use Rattle.std.specs.Prelude.{nat_le}
 use Rattle.std.proofs.lemmas.Bool.{cases_Bool}
 use Rattle.version_store.specs.Histories.{History}
 use Rattle.server_core.specs.declared.standing.Standing.{Standing}
-use Rattle.server_core.specs.Serving.{Setting, is_granted, delta_asked, changes_asked}
+use Rattle.server_core.specs.Serving.{Setting, may_lack_memory, delta_asked, changes_asked}
 
 -- rows, or that there are none to give
 pub delta_granted : (x : Setting) (h : History) (st : Standing) (since : ℕ) (rows : Option (List ℕ)) →
-    is_granted (delta_asked x h st since rows).reply ≡ true
+    may_lack_memory (delta_asked x h st since rows).reply ≡ true
 delta_granted x h st since None = refl
 delta_granted x h st since (Some rows) = elim (cases_Bool (nat_le (length rows) 1024)) [
   | inl few ↦ rw few refl
@@ -17,6 +17,6 @@ delta_granted x h st since (Some rows) = elim (cases_Bool (nat_le (length rows) 
 
 -- entries, or that there are none to give
 pub changes_granted : (x : Setting) (h : History) (st : Standing) (since : ℕ) (entries : Option (List ℕ)) →
-    is_granted (changes_asked x h st since entries).reply ≡ true
+    may_lack_memory (changes_asked x h st since entries).reply ≡ true
 changes_granted x h st since None = refl
 changes_granted x h st since (Some entries) = refl

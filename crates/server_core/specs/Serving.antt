@@ -218,18 +218,18 @@ outcome_of_frame x h st (ChangesAsk since) =
 outcome_of_frame x h st Bye = record { reply = None; standing = Closed; history = h }
 outcome_of_frame x h st _ = refuses refusal.BadFrame Closed h
 
--- whether a reply grants what a frame asks for, or says that its change was made: it is no
--- greeting's, no refusal, and not the current version in reply to a frame that names another
-abbrev pub is_granted : Option Frame → Bool
-is_granted None = false
-is_granted (Some (Welcome profile width record_len groups count version dimension seed)) = false
-is_granted (Some (Stale version count)) = false
-is_granted (Some (Refused code)) = false
-is_granted (Some reply) = true
+-- whether a frame with this reply may be refused memory: the reply is no greeting's, no refusal,
+-- and not the current version in reply to a frame that names another
+abbrev pub may_lack_memory : Option Frame → Bool
+may_lack_memory None = false
+may_lack_memory (Some (Welcome profile width record_len groups count version dimension seed)) = false
+may_lack_memory (Some (Stale version count)) = false
+may_lack_memory (Some (Refused code)) = false
+may_lack_memory (Some reply) = true
 
 -- whether every check is passed, and the reply or the change takes memory
 abbrev pub takes_memory : Setting → History → Standing → Frame → Bool
-takes_memory x h st f = is_granted (outcome_of_frame x h st f).reply
+takes_memory x h st f = may_lack_memory (outcome_of_frame x h st f).reply
 
 -- there is room for so many bytes more
 abbrev pub HasRoom : ℕ → Vec ℕ Global → Type 0

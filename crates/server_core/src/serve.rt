@@ -43,7 +43,7 @@ fn is_publisher_key<K: Kernel>(store: &Store<K>, key: &[u8]) -> bool
     Sha256::digest(key) == *store.publisher()
 }
 
-/// Greets, and answers the standing after it.
+/// Greets, and returns the standing after it.
 fn serve_hello<K: Kernel>(
     store: &Store<K>,
     standing: Standing,
@@ -150,7 +150,7 @@ pub fn has_wide_frames<K: Kernel>(store: &Store<K>) -> bool
 }
 
 /// Gives the records that have changed since a version, if the database is wide; no other stream
-/// has this frame. Answers the standing after it.
+/// has this frame. Returns the standing after it.
 #[tactic(auto, using(crate::proofs::Granted::changes_granted))]
 fn serve_changes_ask<K: Kernel>(
     store: &Store<K>,
@@ -346,7 +346,7 @@ fn serve_bad_frame(out: &mut Vec<u8>) -> Standing
     Standing::Closed
 }
 
-/// Serves a frame for whose reply there is room, and answers the standing after it.
+/// Serves a frame for whose reply there is room, and returns the standing after it.
 fn serve_with_room<K: Kernel>(
     alloc: Global,
     store: &mut Store<K>,
@@ -401,7 +401,7 @@ fn serve_with_room<K: Kernel>(
     }
 }
 
-/// Serves a frame, and answers the standing after it. An `Err` comes only from the 64 bytes for the
+/// Serves a frame, and returns the standing after it. An `Err` comes only from the 64 bytes for the
 /// reply, and then the frame isn't served.
 pub fn serve_frame<K: Kernel>(
     alloc: Global,
@@ -422,7 +422,7 @@ pub fn serve_frame<K: Kernel>(
     Ok(serve_with_room(alloc, store, standing, frame, out))
 }
 
-/// Serves frames until the session is closed, and answers the standing after them. At an `Err`
+/// Serves frames until the session is closed, and returns the standing after them. At an `Err`
 /// memory was refused before a frame, which isn't served.
 pub fn serve_frames<K: Kernel>(
     alloc: Global,

@@ -109,7 +109,7 @@ impl<K: Kernel> ServerCore<K> {
         }
     }
 
-    /// Takes a session away, and answers whether there was one of this number.
+    /// Takes a session away, and returns whether there was one of this number.
     pub fn close_session(&mut self, id: u64) -> bool
         ensures was { result ≡ is_some (session_of self.old.sessions id) }
         ensures gone { session_of self.new.sessions id ≡ None }
@@ -230,7 +230,7 @@ impl<K: Kernel> ServerCore<K> {
     }
 
     /// Makes a step of the answer to a session's next query and of those that are begun with it,
-    /// and answers whether this query may be fed now.
+    /// and returns whether this query may be fed now.
     fn prepare_answer(&mut self, id: u64, piece: &[u8], scheme: Scheme) -> bool
         ensures { self.new ≡ self.old }
     {
@@ -275,7 +275,7 @@ impl<K: Kernel> ServerCore<K> {
         )
     }
 
-    /// Begins the answer to a session's next query, and those to the queries that wait, and answers
+    /// Begins the answer to a session's next query, and those to the queries that wait, and returns
     /// whether there was memory for the first.
     fn begin_answer(&mut self, id: u64, piece: &[u8], scheme: Scheme) -> bool
         ensures { self.new ≡ self.old }
@@ -319,7 +319,7 @@ impl<K: Kernel> ServerCore<K> {
         }
     }
 
-    /// Makes a step of the answers that are begun, unless they are whole, and answers whether they
+    /// Makes a step of the answers that are begun, unless they are whole, and returns whether they
     /// are; then this session's is to be given.
     fn make_step(&mut self, id: u64) -> bool
         ensures { self.new ≡ self.old }
@@ -494,7 +494,7 @@ impl<K: Kernel> ServerCore<K> {
     }
 
     /// Takes the next piece of a session's stream up to the end of the first frame that is whole
-    /// then, adds to `out` the reply to it, and answers how many bytes it took: what
+    /// then, adds to `out` the reply to it, and returns how many bytes it took: what
     /// [`ServerCore::feed`] of just these bytes does. Where no frame is whole it takes all, and
     /// where a fault stands in the frame's place.
     ///

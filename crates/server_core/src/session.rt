@@ -29,9 +29,9 @@ use version_store::Store;
 pub enum Coming {
     /// Nothing that takes long.
     Short,
-    /// It would answer a query in this scheme, whose answer can be made in steps before.
+    /// Answering a query in this scheme, whose answer can be made in steps before.
     LongAnswer(Scheme),
-    /// It would publish, unless memory is refused.
+    /// Publishing, unless memory is refused.
     Publication,
 }
 
@@ -169,7 +169,7 @@ impl Session {
     }
 
     /// Takes the next piece of the stream up to the end of the first frame that is whole then, adds
-    /// the reply to it, and answers how many bytes it took. Where no frame is whole it takes all,
+    /// the reply to it, and returns how many bytes it took. Where no frame is whole it takes all,
     /// and where a fault stands in the frame's place. A closed session takes all and adds nothing.
     /// At an `Err` memory was refused: the session is closed, and nothing was served.
     pub fn feed_frame<K: Kernel>(
@@ -229,7 +229,7 @@ fn bytes_consumed(read: &Result<FrameRead, ReadFault>, len: usize) -> usize
 }
 
 /// Serves the frame that was read to an open session, if there is one, or reports the fault in its
-/// place. Answers the standing after it. At an `Err` memory was refused, and nothing was served.
+/// place. Returns the standing after it. At an `Err` memory was refused, and nothing was served.
 fn serve_read<K: Kernel>(
     alloc: Global,
     store: &mut Store<K>,
@@ -258,7 +258,7 @@ fn serve_read<K: Kernel>(
     }
 }
 
-/// Serves the frames that a piece completes, and then reports how the reading ended. Answers the
+/// Serves the frames that a piece completes, and then reports how the reading ended. Returns the
 /// standing after it. At an `Err` memory was refused.
 fn serve_completed<K: Kernel>(
     alloc: Global,

@@ -78,7 +78,7 @@ pub struct ReadVersion {
 /// Why a snapshot that a file has was not taken.
 #[derive(Clone, Copy, Debug)]
 pub enum VersionFault {
-    /// It was not read.
+    /// The snapshot was not read.
     Snapshot(SnapshotFault),
     /// The file or its name could not be sent to the device.
     Settle(SettleFault),

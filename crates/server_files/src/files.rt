@@ -402,7 +402,7 @@ pub fn digest_of<C: Content>(alloc: Global, content: &C) -> Result<[u8; 32], Fai
     }
 }
 
-/// Writes a snapshot to a file that is made, or replaces it, and answers the version that it has
+/// Writes a snapshot to a file that is made, or replaces it, and returns the version that it has
 /// then: the file is whole at any moment, the old one or the new one. What is no file, as a
 /// terminal, is written to as it is.
 ///

@@ -23,7 +23,7 @@ pub enum InputFault {
     Few,
     /// There are more.
     Many,
-    /// It could not be read.
+    /// A read failed.
     Read,
     /// There is no memory to read it.
     Memory,

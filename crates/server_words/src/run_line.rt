@@ -142,8 +142,8 @@ pub const RUN: CommandText = CommandText {
             name: "memory",
             value: "MIB",
             help: "How many MiB the unfinished frames of all connections, and the replies that \
-                they have not taken, may have together; past that the connection with the most is \
-                closed (256 if not given)",
+                they have not taken, may have together, 1 to 1048576; past that the connection \
+                with the most is closed (256 if not given)",
         },
         Argument::Optional {
             name: "log-limit",
@@ -211,6 +211,8 @@ pub fn options_of_run<'a>(found: &ArgMatches<'a>) -> Result<RunOptions<'a>, BadL
     ensures most { IfOk result (λ running. (1 ≤ running.most) × (running.most ≤ 65535)) }
     ensures idle { IfOk result (λ running. (1 ≤ running.idle) × (running.idle ≤ 86400)) }
     ensures memory { IfOk result (λ running. (1 ≤ running.memory) × (running.memory ≤ 1048576)) }
+    ensures log_limit { IfOk result
+        (λ running. (1 ≤ running.log_limit) × (running.log_limit ≤ 1048576)) }
     ensures most_per_peer { IfOk result (λ running. IfSome running.most_per_peer
         (λ most. (1 ≤ most) × (most ≤ 65535))) }
     ensures grace { IfOk result (λ running. IfSome running.grace

@@ -35,7 +35,7 @@ struct Quota {
 }
 
 impl Quota {
-    // Takes a line from the quota. Answers whether there is one, at a moment in milliseconds.
+    // Takes a line from the quota. Returns whether there is one, at a moment in milliseconds.
     fn take(&mut self, now: u64) -> bool
         ensures one { result ≡ has_line (quota_at now self.old) }
         ensures less { self.new ≡ after_line (quota_at now self.old) }
@@ -247,7 +247,7 @@ fn plain_line(alloc: Global, what: &str, count: Option<u64>) -> Result<Vec<u8>, 
     Ok(line)
 }
 
-/// Writes a line on standard error, if there is room for it at once, and answers whether all of it
+/// Writes a line on standard error, if there is room for it at once, and returns whether all of it
 /// went out. One that is longer than 4,096 bytes is cut off.
 pub fn say_line(line: &str) -> bool {
     say_bytes(line.as_bytes())

@@ -152,7 +152,7 @@ impl Status {
         self.acceptable && self.accepts_from <= now
     }
 
-    /// Reads from each once, and closes those that are over. Answers whether one of them wants a
+    /// Reads from each once, and closes those that are over. Returns whether one of them wants a
     /// response.
     pub fn read_all(&mut self, now: u64) -> bool {
         let mut wanted = false;
@@ -162,7 +162,7 @@ impl Status {
         wanted
     }
 
-    // Reads once from the one at a place, if there is one, and closes it if it is over. Answers
+    // Reads once from the one at a place, if there is one, and closes it if it is over. Returns
     // whether it wants a response.
     fn read_at(&mut self, place: usize, now: u64) -> bool {
         if place >= VISITORS {

@@ -16,9 +16,9 @@ const INPUT_PIECE: usize = 4_096;
 /// Whether a service accepts connections.
 #[derive(Clone, Copy, Debug, PartialEq, Eq)]
 pub enum Phase {
-    /// It does.
+    /// Connections are accepted.
     Serving,
-    /// It accepts none, and serves what was begun until this moment at most.
+    /// None is accepted, and what was begun is served until this moment at most.
     Stopping(u64),
 }
 

@@ -10,9 +10,9 @@ pub const SLOTS: usize = 48;
 /// Why a connection is over.
 #[derive(Clone, Copy, Debug, PartialEq, Eq)]
 pub enum Cause {
-    /// It came to its end.
+    /// The connection came to its end.
     End,
-    /// It could not be accepted.
+    /// No connection could be accepted.
     Connect,
     /// A read failed.
     Read,

@@ -8,9 +8,9 @@ use std::alloc::{AllocError, Global};
 /// What a family of samples is.
 #[derive(Clone, Copy, Debug, PartialEq, Eq)]
 pub enum Kind {
-    /// It only grows.
+    /// A number that only grows.
     Counter,
-    /// It may be anything.
+    /// A number that may become anything.
     Gauge,
     /// How many fell below each of some bounds.
     Histogram,

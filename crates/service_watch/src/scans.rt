@@ -52,7 +52,7 @@ impl FrameScan {
         }
     }
 
-    // Takes the next byte, and answers the kind of the frame that ends with it, if one does.
+    // Takes the next byte, and returns the kind of the frame that ends with it, if one does.
     #[tactic(auto, unfolding(crate::specs::Scans::after_byte, crate::specs::Scans::ended_kind))]
     fn take(&mut self, byte: u8) -> Option<u8>
         ensures scan { self.new ≡ after_byte self.old byte }

@@ -47,7 +47,7 @@ impl Change {
         }
     }
 
-    /// Adds bytes that were written just after those of this change, and answers whether they were.
+    /// Adds bytes that were written just after those of this change, and returns whether they were.
     pub(crate) fn joins(&mut self, at: usize, more: &[u8]) -> Result<bool, AllocError> {
         if self.end() != at {
             return Ok(false);

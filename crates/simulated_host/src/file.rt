@@ -68,7 +68,7 @@ impl<'a> SimulatedFile<'a> {
         Err(ErrorKind::UnexpectedEof.into())
     }
 
-    // Writes some bytes at a place or at the end, and answers how many and where the last one ends.
+    // Writes some bytes at a place or at the end, and returns how many and where the last one ends.
     fn write_some(&self, bytes: &[u8], at: Option<u64>) -> io::Result<(usize, u64)> {
         if !self.is_written {
             return Err(ErrorKind::PermissionDenied.into());
@@ -96,7 +96,7 @@ impl<'a> SimulatedFile<'a> {
         Err(ErrorKind::WriteZero.into())
     }
 
-    /// Takes the lock, and answers whether nobody else has it.
+    /// Takes the lock, and returns whether nobody else has it.
     pub(crate) fn lock(&self) -> io::Result<bool> {
         let mut disk = self.files.disk.try_borrow_mut()?;
         disk.machine(self.files.machine)?.lock(self.handle)

@@ -39,7 +39,7 @@ impl Image {
         self.current.len()
     }
 
-    /// Fills a buffer with the bytes at a place, and answers how many there were.
+    /// Fills a buffer with the bytes at a place, and returns how many there were.
     pub(crate) fn read(&self, at: usize, buffer: &mut [u8]) -> usize {
         let Some(rest) = self.current.get(at..) else {
             return 0;

@@ -53,7 +53,7 @@ struct Held {
     end: End,
     id: u64,
     state: ConnectionState,
-    // It is the publisher's, who may have edited the draft.
+    // Whether it is the publisher's, who may have edited the draft.
     edits: bool,
     // All was written: until this moment what still comes is read and forgotten.
     lingers: Option<u64>,
@@ -335,7 +335,7 @@ fn turn_over<'a>(
     (Some(serving), outcome)
 }
 
-// Serves. Answers whether anything was done.
+// Serves. Returns whether anything was done.
 fn serve<'a>(
     serving: Serving<SimulatedFile<'a>>,
     held: &mut Held,

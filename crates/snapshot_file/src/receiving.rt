@@ -37,7 +37,7 @@ pub trait RecordSink: Sized + Drop {
         ensures shape { shape self.new ≡ shape self.old };
 }
 
-/// Reads what follows an accepted header into a sink, and answers the snapshot's digest: the
+/// Reads what follows an accepted header into a sink, and returns the snapshot's digest: the
 /// records through `buffer`, as many at a time as it has room for, their digest, and the end of the
 /// input. No memory is taken but the header's.
 ///

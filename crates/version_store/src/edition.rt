@@ -254,7 +254,7 @@ impl<K: Kernel> Edition<K> {
         Ok(())
     }
 
-    /// Makes one more step of the answers that were begun, and answers whether none is left, also
+    /// Makes one more step of the answers that were begun, and returns whether none is left, also
     /// if no answer was begun.
     pub fn step_answers(&mut self) -> bool
         ensures { self.new ≡ self.old }

@@ -210,7 +210,7 @@ impl FirstLayer {
         self.digits.mul_vec(kernel, words, out);
     }
 
-    /// Writes some more words of the answer to the words of a SimplePIR query, and answers how many
+    /// Writes some more words of the answer to the words of a SimplePIR query, and returns how many
     /// there are then.
     pub fn put_answer_rows<K: Kernel>(
         &self,

@@ -15,14 +15,15 @@ use thiserror::Error;
 /// Why a store can't be opened: the first cause in the order of the variants.
 #[derive(Clone, Copy, Debug, PartialEq, Eq, Error)]
 pub enum OpenError {
-    /// There is no such form, or it is 2 for records of one byte; the layout is refused, or the
-    /// dimension is not in 1 to 1024.
+    /// There is no such form, or it is 2 or 130 for records of one byte; the layout is refused, or
+    /// the dimension is not in 1 to 1024.
     #[error("the layout or the dimension is outside the limits")]
     BadLayout,
     /// The version is 0.
     #[error("there is no version 0")]
     BadVersion,
-    /// The bytes are not as many as the records have, or in form 2 those of a record are no slot.
+    /// The bytes are not as many as the records have, or in the forms 2 and 130 those of a record
+    /// are no slot.
     #[error("the records have another number of bytes, or one of them is no slot")]
     BadRecords,
     /// There is no memory for what is made from the records.

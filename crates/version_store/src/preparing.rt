@@ -182,7 +182,7 @@ impl Preparations {
         mem::replace(self, all).give_up();
     }
 
-    /// Makes one more step of each, and answers whether none is left of any.
+    /// Makes one more step of each, and returns whether none is left of any.
     pub(crate) fn step<K: Kernel>(
         &mut self,
         kernel: K,

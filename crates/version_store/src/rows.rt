@@ -82,7 +82,7 @@ pub fn follow_rows<K: Kernel, S: DigitStore>(
     }
 }
 
-// Lists the rows that are marked from row `from` on, ascending, at most `most` of them, and answers
+// Lists the rows that are marked from row `from` on, ascending, at most `most` of them, and returns
 // the row before which it stopped.
 fn list_marked(marks: &[bool], from: usize, most: usize, listed: &mut Vec<usize>) -> usize
     requires from { from < length marks.now }

@@ -63,7 +63,8 @@ pub enum EditError {
     /// There is no such record.
     #[error("there is no such record")]
     BadIndex,
-    /// The bytes are not as many as a record has, or in form 2 more than its slot has room for.
+    /// The bytes are not as many as a record has, or in the forms 2 and 130 more than its slot has
+    /// room for.
     #[error("a record can't have this number of bytes")]
     BadLength,
     /// There is no memory for the change.
@@ -88,7 +89,8 @@ impl EditError {
 /// Why an append is refused: the first cause in the order of the variants.
 #[derive(Clone, Copy, Debug, PartialEq, Eq, Error)]
 pub enum AppendError {
-    /// The bytes are not as many as a record has, or in form 2 more than its slot has room for.
+    /// The bytes are not as many as a record has, or in the forms 2 and 130 more than its slot has
+    /// room for.
     #[error("a record can't have this number of bytes")]
     BadLength,
     /// The draft has as many records as its layout allows.
@@ -211,10 +213,11 @@ impl<K: Kernel> Model for Store<K> {
 impl<K: Kernel> Store<K> {
     /// The store of a snapshot's records, with an empty draft. It keeps the allocator.
     ///
-    /// `BadLayout` exactly when there is no such form, or it is 2 for records of one byte, the
-    /// layout is refused or the dimension is not in 1 to 1024; else `BadVersion` exactly when the
-    /// version is 0; else `BadRecords` exactly when the bytes are not as many as the records have,
-    /// or in form 2 those of a record are no slot; else it is opened, or `Memory`.
+    /// `BadLayout` exactly when there is no such form, or it is 2 or 130 for records of one byte,
+    /// the layout is refused or the dimension is not in 1 to 1024; else `BadVersion` exactly when
+    /// the version is 0; else `BadRecords` exactly when the bytes are not as many as the records
+    /// have, or in the forms 2 and 130 those of a record are no slot; else the store is opened, or
+    /// `Memory`.
     pub fn open(alloc: Global, kernel: K, snapshot: Snapshot) -> Result<Store<K>, OpenError>
         ensures held { IfOk result (λ s. s ≡ held_of (header_of snapshot) snapshot.records.items) }
         ensures history { IfOk result
@@ -351,7 +354,8 @@ impl<K: Kernel> Store<K> {
         self.edition.plan()
     }
 
-    /// The form: 1 where all records have one length, 2 where each has its own.
+    /// The form: 1 if all records have one length, 2 if each has its own; in a wide store 129 and
+    /// 130.
     pub fn form(&self) -> u8
         ensures value { result ≡ self.now.edition.plan.form }
         ensures there { is_form self.now.edition.plan.form self.now.edition.plan.record_len ≡ true }
@@ -394,7 +398,7 @@ impl<K: Kernel> Store<K> {
         self.edition.record(i)
     }
 
-    /// Writes the bytes of record i to the beginning of `out`, and answers how many they are: in
+    /// Writes the bytes of record i to the beginning of `out`, and returns how many they are: in
     /// forms of slots fewer than `out` has, and anything may follow them. It takes no memory.
     pub fn copy_record(&self, i: usize, out: &mut [u8]) -> usize
         requires index { i < length self.now.edition.records }

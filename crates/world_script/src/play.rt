@@ -28,7 +28,7 @@ pub enum RehearseFault {
     Write,
 }
 
-/// Reads a script, plays it, and prints what comes of it. Answers the exit status.
+/// Reads a script, plays it, and prints what comes of it. Returns the exit status.
 ///
 /// The status is 0 where the script was played to its end. It is 3 where the script is too long,
 /// where a line doesn't fit its place, and where the world can't be opened, and 4 where there was
@@ -66,7 +66,7 @@ pub fn rehearse<R: Read, W: Write>(
     }
 }
 
-/// Prints why a rehearsal ended before its script, and answers the status.
+/// Prints why a rehearsal ended before its script, and returns the status.
 fn report<W: Write>(alloc: Global, stop: Stop, writer: &mut W) -> Result<u8, RehearseFault>
     ensures printed { ReportsEnd stop (W.contents writer.old) result (W.contents writer.new) }
     ensures status { IfOk result (λ status. (status ≡ 3) ⊎ (status ≡ 4)) }

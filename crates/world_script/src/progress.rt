@@ -72,7 +72,10 @@ impl Progress {
             Progress::Filling(opening) => opening.take(alloc, number, line, writer),
             Progress::Running(world) => match line {
                 Line::Step(step) => make_step(alloc, world, step, writer),
-                _ => Err(Stop::BadLine { number }),
+                _ => {
+                    drop(world);
+                    Err(Stop::BadLine { number })
+                }
             },
         }
     }
@@ -89,11 +92,17 @@ impl Progress {
                     return Err(Stop::BadLine { number });
                 }
                 match opening.open(alloc) {
-                    Ok(_) => Ok(()),
+                    Ok(world) => {
+                        drop(world);
+                        Ok(())
+                    }
                     Err(stop) => Err(stop),
                 }
             }
-            Progress::Running(_) => Ok(()),
+            Progress::Running(world) => {
+                drop(world);
+                Ok(())
+            }
         }
     }
 }
@@ -264,7 +273,8 @@ fn keep_record(plan: &Plan, records: &mut Vec<u8>, bytes: &[u8]) -> Result<(), A
     records.extend_from_slice(bytes)
 }
 
-/// Makes a step, and prints what comes of it.
+/// Makes a step, and prints what comes of it. A world that ends is given to `drop`: the prover would
+/// else take apart all that it owns at each way out.
 fn make_step<W: Write>(
     alloc: Global,
     mut world: World<Lanes>,
@@ -280,13 +290,22 @@ fn make_step<W: Write>(
     match world.step(step) {
         Ok(()) => match say_added(alloc, &world, before, writer) {
             Ok(()) => Ok(Progress::Running(world)),
-            Err(stop) => Err(stop),
+            Err(stop) => {
+                drop(world);
+                Err(stop)
+            }
         },
         Err(StepFault::NoClient) => match say_no_client(alloc, client, writer) {
             Ok(()) => Ok(Progress::Running(world)),
-            Err(stop) => Err(stop),
+            Err(stop) => {
+                drop(world);
+                Err(stop)
+            }
         },
-        Err(_) => Err(Stop::Memory),
+        Err(_) => {
+            drop(world);
+            Err(Stop::Memory)
+        }
     }
 }
 

@@ -8,7 +8,7 @@ use service_watch::Figures;
 use std::net::SocketAddr;
 
 impl Service {
-    // Prints where it listens, and answers that.
+    // Prints where it listens, and returns that.
     pub(super) fn print(&self, rt: &HostRuntime) -> Result<SocketAddr, RunFault> {
         let Some(listener) = &self.listener else {
             return Err(RunFault::Connect);
@@ -23,7 +23,7 @@ impl Service {
         }
     }
 
-    // Gives those who ask their part of a round, which changes nothing of what is served. Answers
+    // Gives those who ask their part of a round, which changes nothing of what is served. Returns
     // the moment at which something is to be done for one of them, even if no event comes.
     pub(super) fn attend<S: Saver>(
         &self,

@@ -32,9 +32,8 @@ impl Service {
         }
     }
 
-    // Has each connection have its turn for which something is due, and notes when that is so for
-    // the next one. What is due is looked for among all of them, but only where it can be found,
-    // and not too often.
+    // Marks each connection for which something is due, so that it has its turn, and notes when to
+    // look again. All connections are looked at, so this is not done in each round.
     pub(super) fn note_due(&mut self, now: u64)
         ensures looks { self.old.schedule.scan_at ≤ now → (self.new.schedule.scanned ≡ now)
             × AreQueued self.new.places.connections.items self.new.limits.idle now }
@@ -56,7 +55,7 @@ impl Service {
         self.queue_due(now);
     }
 
-    // Has each connection have its turn for which something is due.
+    // Marks each connection for which something is due, so that it has its turn.
     pub(super) fn queue_due(&mut self, now: u64)
         ensures due { AreQueued self.new.places.connections.items self.new.limits.idle now }
         ensures limits { self.new.limits ≡ self.old.limits }

@@ -144,7 +144,7 @@ impl Service {
         Ok(server)
     }
 
-    // Gives the connection at a place a turn, if there is one, and closes what is over. Answers
+    // Gives the connection at a place a turn, if there is one, and closes what is over. Returns
     // whether there is more to do at once.
     pub(super) fn take_turn_at<S: Saver + Drop>(
         &mut self,
@@ -199,7 +199,7 @@ impl Service {
         Ok((server, more))
     }
 
-    // Puts a connection back into its place after a turn, or closes it. Answers whether there is
+    // Puts a connection back into its place after a turn, or closes it. Returns whether there is
     // more to do at once: where it is closed, whether another may be accepted in its place.
     pub(super) fn finish_turn<S: Saver>(
         &mut self,

@@ -26,13 +26,13 @@ const LEAVE: u64 = 500;
 /// What a call on a socket came to.
 #[derive(Clone, Copy, PartialEq, Eq)]
 pub enum Call {
-    /// It would have waited.
+    /// The call would have waited.
     Waited,
-    /// It read or wrote so many bytes.
+    /// So many bytes were read or written.
     Moved(usize),
     /// There is nothing more to come, or nothing was taken.
     Ended,
-    /// It failed.
+    /// The call failed.
     Failed,
 }
 
@@ -130,7 +130,7 @@ impl Visitor {
         if busy { 0 } else { self.until }
     }
 
-    /// Reads once, where there is something to be read. Answers whether it stays.
+    /// Reads once, where there is something to be read. Returns whether it stays.
     pub fn read(&mut self, now: u64) -> bool
         ensures late { self.old.until ≤ now → result ≡ false }
         ensures bound { self.new.until ≡ self.old.until }
@@ -178,7 +178,7 @@ impl Visitor {
         Call::of(stream.read(&mut [0u8; MOST_HEAD]))
     }
 
-    /// Makes the response, where the request is whole. Answers whether it stays.
+    /// Makes the response, where the request is whole. Returns whether it stays.
     pub fn answer(&mut self, alloc: Global, figures: &Figures) -> bool
         ensures { self.new.until ≡ self.old.until }
     {
@@ -195,7 +195,7 @@ impl Visitor {
         }
     }
 
-    /// Writes once, where there is a response. Answers whether it stays: its time is over soon
+    /// Writes once, where there is a response. Returns whether it stays: its time is over soon
     /// after the whole response was written.
     pub fn write(&mut self, now: u64) -> bool
         ensures late { self.old.until ≤ now → result ≡ false }
@@ -228,7 +228,7 @@ impl Visitor {
         Call::of(stream.write(&bytes[self.written..]))
     }
 
-    // Ends the writing. Answers whether it stays.
+    // Ends the writing. Returns whether it stays.
     fn leave(&mut self, now: u64) -> bool
         ensures { self.new.until ≡ leaving_until now self.old.until }
     {

@@ -10,7 +10,7 @@ use std::io::ErrorKind;
 const SHORT_IN: usize = 8;
 
 impl Machine {
-    /// Fills a buffer with some bytes at a place, and answers how many.
+    /// Fills a buffer with some bytes at a place, and returns how many.
     pub(crate) fn read(&mut self, handle: Handle, at: u64, buffer: &mut [u8]) -> io::Result<usize> {
         self.begin_on(handle)?;
         self.risk(self.faults.reads_fail)?;
@@ -33,7 +33,7 @@ impl Machine {
         count
     }
 
-    /// Writes some bytes at a place, or at the end, and answers how many and where the last one
+    /// Writes some bytes at a place, or at the end, and returns how many and where the last one
     /// ends. A write that fails may have written some of them.
     pub(crate) fn write(
         &mut self,

@@ -101,7 +101,7 @@ impl Machine {
         }
     }
 
-    /// Takes a lock, and answers whether nobody else has it.
+    /// Takes a lock, and returns whether nobody else has it.
     pub(crate) fn lock(&mut self, handle: Handle) -> io::Result<bool> {
         self.begin_on(handle)?;
         let node = self.node(handle)?;

@@ -31,7 +31,7 @@ impl<K: Kernel> Store<K> {
         self.edition.add_answer(self.alloc, scheme, words)
     }
 
-    /// Makes one more step of the answers that were begun, and answers whether none is left: also
+    /// Makes one more step of the answers that were begun, and returns whether none is left: also
     /// if none was begun, or they were given up for another version. It takes no memory.
     pub fn step_answers(&mut self) -> bool
         ensures { self.new ≡ self.old }

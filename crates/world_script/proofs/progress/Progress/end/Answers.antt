@@ -14,13 +14,13 @@ returns-in-Ok c = λ place at.
     let positive : 0 < length c.in-Filling.opening.clients.items =
     (let some : vec_len c.in-Filling.opening.clients ≢ 0 =
     eqb-false (vec_len c.in-Filling.opening.clients) 0 (sym c.if-is_empty.ensures) in omega (arith, some)) in
-    let w : IsOpened (filling_of c.in-Filling.opening) c.in-Ok.field-0 = c.in-Ok.ensures in (
+    let w : IsOpened (filling_of c.in-Filling.opening) c.in-Ok.world = c.in-Ok.ensures in (
       Running (opened_world (filling_of c.in-Filling.opening)),
       subst (λ (p : Place). LeadsAtEnd p (Goes (Running (opened_world (filling_of c.in-Filling.opening))) [])) (sym a)
-          (inr (positive, inl (opening_of (filling_of c.in-Filling.opening) c.in-Ok.field-0 w, refl))),
+          (inr (positive, inl (opening_of (filling_of c.in-Filling.opening) c.in-Ok.world w, refl))),
     )
 
-pub returns : goal.returns
-returns c = λ place at.
-    let a : IsAt (progress.Running c.in-Running.field-0) place = subst (λ (s : Progress). IsAt s place) c.in-Running.is at in
+pub returns-in-Running : goal.returns-in-Running
+returns-in-Running c = λ place at.
+    let a : IsAt (progress.Running c.in-Running.world) place = subst (λ (s : Progress). IsAt s place) c.in-Running.is at in
     (place, subst (λ (p : Place). LeadsAtEnd p (Goes p [])) (sym a.3) refl)
