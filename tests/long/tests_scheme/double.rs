@@ -1,5 +1,5 @@
 //! Both records of a store of two. A retrieval with chosen secrets, records of several digits and answers that give no
-//! record are in tests/long.
+//! record are in the folder `double`.
 //!
 //! Proved by `tests/long/run --prove`.
 
