@@ -69,6 +69,31 @@ pub enum Argument {
         name: &'static str,
         help: &'static str,
     },
+    /// Such a word that may be left out.
+    MaybeWord {
+        name: &'static str,
+        help: &'static str,
+    },
+    /// An option that must be given, and may be given more than once.
+    Repeated {
+        name: &'static str,
+        value: &'static str,
+        help: &'static str,
+    },
+}
+
+/// A program's command with one more command below it.
+pub fn with_command<'a>(
+    alloc: Global,
+    program: Command<'a>,
+    text: &CommandText,
+) -> Result<Command<'a>, AllocError> {
+    let Ok(below) = text.command(alloc) else {
+        // By a call: the prover would else take apart here all that a command owns.
+        drop(program);
+        return Err(AllocError);
+    };
+    program.subcommand(below)
 }
 
 impl CommandText {
@@ -78,7 +103,11 @@ impl CommandText {
             .about(self.about)
             .after_help(self.example);
         for argument in self.arguments {
-            command = command.arg(argument.arg(alloc)?)?;
+            let Ok(next) = argument.arg(alloc) else {
+                drop(command);
+                return Err(AllocError);
+            };
+            command = command.arg(next)?;
         }
         Ok(command)
     }
@@ -111,6 +140,10 @@ impl Argument {
             }
             Argument::Word { name, help } => Ok(word(alloc, name, help)),
             Argument::Words { name, help } => Ok(word(alloc, name, help).num_args(1..)),
+            Argument::MaybeWord { name, help } => Ok(word(alloc, name, help).required(false)),
+            Argument::Repeated { name, value, help } => {
+                Ok(option(alloc, name, value, help).action(ArgAction::Append))
+            }
         }
     }
 }

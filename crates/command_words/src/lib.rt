@@ -16,7 +16,7 @@ mod words;
 
 pub use arguments::program_words;
 pub use bad_line::BadLine;
-pub use command_text::{Argument, CommandText};
+pub use command_text::{Argument, CommandText, with_command};
 pub use descriptors::open_standard_descriptors;
 pub use failed::{Failed, file_failed, printed};
 pub use failure::Failure;

@@ -11,6 +11,7 @@ use crate::server::Address;
 use clap::{ArgMatches, Command};
 use command_words::{
     Argument, BadLine, CommandText, Secret, key_at, number_at, record_bytes, seed_at, text_at,
+    with_command,
 };
 use session_core::Scheme;
 use std::alloc::{AllocError, Global};
@@ -332,14 +333,14 @@ const REHEARSE: CommandText = CommandText {
 
 // The whole command line.
 fn whole_command<'a>(alloc: Global) -> Result<Command<'a>, AllocError> {
-    let mut command = Command::new(alloc, "pir_client")
+    let mut program = Command::new(alloc, "pir_client")
         .version(VERSION)
         .about("A client of one pir_server")
         .after_help(EXIT_STATUSES);
     for text in [&GET, &STATE, &FORGET, &PUT, &APPEND, &PUBLISH, &REHEARSE] {
-        command = command.subcommand(text.command(alloc)?)?;
+        program = with_command(alloc, program, text)?;
     }
-    Ok(command)
+    Ok(program)
 }
 
 /// What `--version` prints after the program's name.

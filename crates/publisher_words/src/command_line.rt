@@ -8,9 +8,9 @@ ghost use Rattle.publisher_words.specs.Tasks.{ReadsShow};
 
 use crate::init_line::{Beginning, INIT, beginning_of};
 use crate::peers::{Peer, peers_at};
-use clap::{Arg, ArgAction, ArgMatches, Command};
+use clap::{ArgMatches, Command};
 use command_words::{
-    Argument, BadLine, CommandText, Secret, key_at, number_at, option, record_bytes, text_at,
+    Argument, BadLine, CommandText, Secret, key_at, number_at, record_bytes, text_at, with_command,
 };
 use std::alloc::{AllocError, Global};
 
@@ -121,6 +121,13 @@ const DIR: Argument = Argument::Required {
     help: "The folder",
 };
 
+// The option that names a server.
+const TO: Argument = Argument::Repeated {
+    name: "to",
+    value: "HOST:PORT",
+    help: "A server; more than one may be given, each with a --to of its own",
+};
+
 // The command `import`.
 const IMPORT: CommandText = CommandText {
     name: "import",
@@ -192,7 +199,14 @@ const SHOW: CommandText = CommandText {
         Example: pir_publisher show --dir mine\n\
         Example: pir_publisher show --dir mine 0\n\n\
         With --verbose a fault has a second line, 'cause: TEXT', that says what failed and where.",
-    arguments: &[Argument::Verbose, DIR],
+    arguments: &[
+        Argument::Verbose,
+        DIR,
+        Argument::MaybeWord {
+            name: "INDEX",
+            help: "Which record, counted from 0",
+        },
+    ],
 };
 
 // The command `diff`.
@@ -221,7 +235,7 @@ const PUBLISH: CommandText = CommandText {
     arguments: &[Argument::Verbose, DIR],
 };
 
-// The command `push`, but its servers.
+// The command `push`.
 const PUSH: CommandText = CommandText {
     name: "push",
     about: "Brings servers to the folder's version",
@@ -267,10 +281,11 @@ const PUSH: CommandText = CommandText {
             help: "Retrieves of each server the records that were changed by what was pushed to \
                 it, or by the last publication, and compares them with the folder's",
         },
+        TO,
     ],
 };
 
-// The command `status`, but its servers.
+// The command `status`.
 const STATUS: CommandText = CommandText {
     name: "status",
     about: "Asks servers for their versions",
@@ -279,7 +294,7 @@ const STATUS: CommandText = CommandText {
         did not tell the cause, and at the end 'fault: Connect'.\n\n\
         Example: pir_publisher status --dir mine --to 127.0.0.1:7000 --to 127.0.0.1:7001\n\n\
         With --verbose a fault has a second line, 'cause: TEXT', that says what failed and where.",
-    arguments: &[Argument::Verbose, DIR],
+    arguments: &[Argument::Verbose, DIR, TO],
 };
 
 /// What `--version` prints after the program's name.
@@ -321,38 +336,17 @@ const EXIT_STATUSES: &str =
 
 // The whole command line.
 fn whole_command<'a>(alloc: Global) -> Result<Command<'a>, AllocError> {
-    let mut command = Command::new(alloc, "pir_publisher")
+    let mut program = Command::new(alloc, "pir_publisher")
         .version(VERSION)
         .about("Keeps a publisher's records and versions in a folder, and brings them to servers")
         .after_help(EXIT_STATUSES)
         .subcommand_required(true);
-    for text in [&INIT, &IMPORT, &SET, &ADD, &DIFF, &PUBLISH] {
-        command = command.subcommand(text.command(alloc)?)?;
+    for text in [
+        &INIT, &IMPORT, &SET, &ADD, &DIFF, &PUBLISH, &SHOW, &PUSH, &STATUS,
+    ] {
+        program = with_command(alloc, program, text)?;
     }
-    command = command.subcommand(SHOW.command(alloc)?.arg(index(alloc))?)?;
-    for text in [&PUSH, &STATUS] {
-        command = command.subcommand(text.command(alloc)?.arg(to(alloc))?)?;
-    }
-    Ok(command)
-}
-
-// The word of `show` that may be left out.
-fn index<'a>(alloc: Global) -> Arg<'a> {
-    Arg::new(alloc, "INDEX")
-        .value_name("INDEX")
-        .help("Which record, counted from 0")
-        .action(ArgAction::Set)
-}
-
-// The option that names a server, which may be given more than once.
-fn to<'a>(alloc: Global) -> Arg<'a> {
-    option(
-        alloc,
-        "to",
-        "HOST:PORT",
-        "A server; more than one may be given, each with a --to of its own",
-    )
-    .action(ArgAction::Append)
+    Ok(program)
 }
 
 // The record's bytes given for `HEX`.

@@ -1,24 +1,19 @@
 //! The command line of `init`.
 
-ghost use Rattle.std.specs.Prelude.{IfOk, codes};
+ghost use Rattle.std.specs.Prelude.{IfOk};
 ghost use Rattle.clap.specs.Matches.{found_of};
-ghost use Rattle.server_words.specs.Tasks.{IsNumberIf, IsNumberOr};
 ghost use Rattle.publisher_words.specs.Tasks.{ReadsInit};
 
 use crate::command_line::{DIR_TAKES, KEY_TAKES, SEED_TAKES};
 use clap::ArgMatches;
 use command_words::{Argument, BadLine, CommandText, key_at, number_at, seed_at, text_at};
-use server_words::Making;
-
-const FORM_TAKES: &str = "--form takes 1 or 2";
+use server_words::{Making, count_of, form_of};
 
 const WIDTH_TAKES: &str = "--width takes a number from 6 to 10";
 
 const RECORD_TAKES: &str = "--record takes a number from 0 to 65535";
 
 const GROUPS_TAKES: &str = "--groups takes a number from 0 to 65535";
-
-const COUNT_TAKES: &str = "--count takes a number from 1 to 4294967295";
 
 /// The folder that `init` is to begin.
 #[derive(Clone, Copy)]
@@ -125,30 +120,4 @@ pub fn beginning_of<'a>(found: &ArgMatches<'a>) -> Result<Beginning<'a>, BadLine
         key: key_at(found, "key", KEY_TAKES)?,
     };
     Ok(Beginning { dir, making })
-}
-
-// The form of a new store: 1 if none is given.
-fn form_of<'a>(found: &ArgMatches<'a>) -> Result<u8, BadLine<'a>>
-    ensures { IfOk result (IsNumberOr 1 (found_of found.now) (codes "form")) }
-{
-    let Some(text) = found.get_str("form") else {
-        return Ok(1);
-    };
-    match number_at(found, "form", 2, FORM_TAKES)? {
-        0 => Err(BadLine::Given(FORM_TAKES, text)),
-        form => Ok(form as u8),
-    }
-}
-
-// How many records there are, if that is given.
-fn count_of<'a>(found: &ArgMatches<'a>) -> Result<Option<u32>, BadLine<'a>>
-    ensures { IfOk result (IsNumberIf (found_of found.now) (codes "count")) }
-{
-    let Some(text) = found.get_str("count") else {
-        return Ok(None);
-    };
-    match number_at(found, "count", u64::from(u32::MAX), COUNT_TAKES)? {
-        0 => Err(BadLine::Given(COUNT_TAKES, text)),
-        count => Ok(Some(count as u32)),
-    }
 }

@@ -8,7 +8,9 @@ ghost use Rattle.server_words.specs.Tasks.{ReadsWiden};
 use crate::make_line::{MAKE, Making, making_of};
 use crate::run_line::{RUN, RunOptions, options_of_run};
 use clap::{ArgMatches, Command};
-use command_words::{Argument, BadLine, CommandText, Secret, key_at, number_at, seed_at, text_at};
+use command_words::{
+    Argument, BadLine, CommandText, Secret, key_at, number_at, seed_at, text_at, with_command,
+};
 use std::alloc::{AllocError, Global};
 
 /// What `--out` takes, as a bad one is reported.
@@ -301,16 +303,16 @@ const ONCE: CommandText = CommandText {
 
 // The whole command line.
 fn whole_command<'a>(alloc: Global) -> Result<Command<'a>, AllocError> {
-    let mut command = Command::new(alloc, "pir_server")
+    let mut program = Command::new(alloc, "pir_server")
         .version(VERSION)
         .about("A server of private information retrieval on this machine")
         .after_help(EXIT_STATUSES);
     for text in [
         &MAKE, &MIGRATE, &WIDEN, &REKEY, &SHOW, &COMPACT, &BACKUP, &SERVE, &RUN, &ONCE,
     ] {
-        command = command.subcommand(text.command(alloc)?)?;
+        program = with_command(alloc, program, text)?;
     }
-    Ok(command)
+    Ok(program)
 }
 
 /// What `--version` prints after the program's name.

@@ -13,5 +13,5 @@ mod run_line;
 pub use command_line::{
     Asked, BackingUp, KEY_TAKES, Migrating, Rekeying, SEED_TAKES, Serving, Task, Widening, task_of,
 };
-pub use make_line::Making;
+pub use make_line::{Making, count_of, form_of};
 pub use run_line::RunOptions;

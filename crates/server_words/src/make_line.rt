@@ -5,7 +5,7 @@ ghost use Rattle.clap.specs.Matches.{found_of};
 ghost use Rattle.server_words.specs.Tasks.{IsNumberIf, IsNumberOr, ReadsMake};
 
 use crate::command_line::{KEY_TAKES, OUT_TAKES, SEED_TAKES};
-use crate::run_line::number_if;
+use crate::run_line::{number_if, number_or};
 use clap::ArgMatches;
 use command_words::{Argument, BadLine, CommandText, Secret, key_at, number_at, seed_at, text_at};
 
@@ -154,21 +154,23 @@ pub fn making_of<'a>(found: &ArgMatches<'a>) -> Result<Making<'a>, BadLine<'a>>
     })
 }
 
-// The form of a new store: 1 where none is given.
-fn form_of<'a>(found: &ArgMatches<'a>) -> Result<u8, BadLine<'a>>
+/// The form of a new store: 1 if none is given.
+///
+/// # Errors
+///
+/// `Given` if it is neither 1 nor 2.
+pub fn form_of<'a>(found: &ArgMatches<'a>) -> Result<u8, BadLine<'a>>
     ensures { IfOk result (IsNumberOr 1 (found_of found.now) (codes "form")) }
 {
-    let Some(text) = found.get_str("form") else {
-        return Ok(1);
-    };
-    match number_at(found, "form", 2, FORM_TAKES)? {
-        0 => Err(BadLine::Given(FORM_TAKES, text)),
-        form => Ok(form as u8),
-    }
+    Ok(number_or(found, "form", 1, 2, FORM_TAKES)? as u8)
 }
 
-// How many records there are, if that is given.
-fn count_of<'a>(found: &ArgMatches<'a>) -> Result<Option<u32>, BadLine<'a>>
+/// How many records there are, if that is given.
+///
+/// # Errors
+///
+/// `Given` if it is no number from 1 to 4294967295.
+pub fn count_of<'a>(found: &ArgMatches<'a>) -> Result<Option<u32>, BadLine<'a>>
     ensures { IfOk result (IsNumberIf (found_of found.now) (codes "count")) }
 {
     match number_if(found, "count", u64::from(u32::MAX), COUNT_TAKES)? {

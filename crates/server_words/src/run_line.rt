@@ -296,7 +296,7 @@ fn draft_at<'a>(found: &ArgMatches<'a>) -> Result<DraftLife, BadLine<'a>>
 ///
 /// # Errors
 ///
-/// `Given` where it is no such number.
+/// `Given` if it is no such number.
 pub fn number_if<'a>(
     found: &ArgMatches<'a>,
     name: &str,
@@ -353,8 +353,12 @@ fn address_of<'a>(text: &'a str, takes: &'static str) -> Result<SocketAddr, BadL
     }
 }
 
-// The number given for an option, from 1 to the most, or the usual one where none is given.
-fn number_or<'a>(
+/// The number given for an option, from 1 to the most, or the usual one if none is given.
+///
+/// # Errors
+///
+/// `Given` if it is no such number.
+pub fn number_or<'a>(
     found: &ArgMatches<'a>,
     name: &str,
     usual: u64,
