@@ -50,7 +50,7 @@ Receives old turns (Err Memory) read out left new = FeedsClient old read out [] 
 Receives old turns (Err TurnsUsedUp) read out left new = WaitsForReply old read out new × (turns ≤ length read)
 Receives old turns (Err Failed) read out left new = FeedsClient old read out [] (Some client.Failed) new
 
--- Nothing was read. Of the first bytes a part went out, or, where there was no memory, nothing was
+-- Nothing was read. Of the first bytes a part went out, or, if there was no memory, nothing was
 -- written.
 abbrev pub NeverReceives : Client → List ℕ → Result Event ConverseFault → List ℕ → List ℕ → Client → Type 0
 NeverReceives old first (Err Write) read out new = (read ≡ []) × IsCutOff out first × (new ≡ old)

@@ -80,7 +80,7 @@ pub record ServesSession {C : Type 0} (does : C → Call → C → Type 0) (id t
   pub turns_are : ServesTurns does id turns opened a result last b
   pub store_then : new.store ≡ last.store
 
--- What was done over a connection. Where there was a session of this number, nothing.
+-- What was done over a connection. If there was a session of this number, nothing.
 abbrev pub ServesOver : {C : Type 0} → (C → Call → C → Type 0) → ℕ → ℕ → Core → C → Result Ending ServeFault → Core → C → Type 0
 ServesOver does id turns old a (Err fault.IdInUse) new b = (new ≡ old) × (b ≡ a)
 ServesOver does id turns old a result new b = NeverServes old a result new b ⊎ ServesSession does id turns old a result new b

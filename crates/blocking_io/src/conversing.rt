@@ -75,7 +75,7 @@ fn fault_of(fault: ClientFault) -> ConverseFault
     }
 }
 
-// Gives the client a piece, and writes what it says to it. Returns the first event, where there is
+// Gives the client a piece, and writes what it says to it. Returns the first event, if there is
 // one.
 fn feed_client<K: Kernel, C: Connection>(
     client: &mut ClientCore<K>,
@@ -99,7 +99,7 @@ fn feed_client<K: Kernel, C: Connection>(
 }
 
 /// Makes one turn of a client: reads a piece of at most 65,536 bytes, gives it to the client, and
-/// writes all that the client says to it. Returns the first event that came of it, or `None` where
+/// writes all that the client says to it. Returns the first event that came of it, or `None` if
 /// none did.
 ///
 /// `buffer` has room for a piece, as `connection_io::piece_buffer` makes it: what it held is lost.
@@ -107,8 +107,8 @@ fn feed_client<K: Kernel, C: Connection>(
 /// # Errors
 ///
 /// `Ended` exactly when the read gave no byte, and `Read` exactly when it failed: the client is as
-/// it was. `Write` where a write failed, after which there is no other: a part of what the client
-/// says went out, from its start on. `BadWelcome`, `BadReply`, `Failed` and `Memory` where the
+/// it was. `Write` if a write failed, after which there is no other: a part of what the client
+/// says went out, from its start on. `BadWelcome`, `BadReply`, `Failed` and `Memory` if the
 /// client answered so, and before any event.
 pub fn converse_turn<K: Kernel, C: Connection>(
     client: &mut ClientCore<K>,
@@ -158,9 +158,9 @@ fn read_until_event<K: Kernel, C: Connection>(
 ///
 /// # Errors
 ///
-/// `Memory` where there was none for a piece, and no call was made. `Write` where a write of
+/// `Memory` if there was none for a piece, and no call was made. `Write` if a write of
 /// `first` failed: a part of it went out, and nothing was read. Those of the last turn.
-/// `TurnsUsedUp` where no event came in all turns.
+/// `TurnsUsedUp` if no event came in all turns.
 pub fn converse_over<K: Kernel, C: Connection>(
     alloc: Global,
     client: &mut ClientCore<K>,
@@ -186,15 +186,15 @@ pub fn converse_over<K: Kernel, C: Connection>(
 /// and before an event or a fault of the piece is answered.
 ///
 /// With an event, `first` was written, and after it exactly what the client said to all that was
-/// read. An event is answered also where a fault follows it in its piece: the next call then
+/// read. An event is answered also if a fault follows it in its piece: the next call then
 /// answers `Failed`.
 ///
 /// # Errors
 ///
-/// `Ended` where the server's stream ended before an event, `Read` where a read failed,
-/// `TurnsUsedUp` where no event came in all turns. `Write` where a write failed or took no byte: a
+/// `Ended` if the server's stream ended before an event, `Read` if a read failed,
+/// `TurnsUsedUp` if no event came in all turns. `Write` if a write failed or took no byte: a
 /// part of what was to be written went out, from its start on. `BadWelcome`, `BadReply` and
-/// `Failed` where the client answered so, and `Memory` where it did, or where there was none for
+/// `Failed` if the client answered so, and `Memory` if it did, or if there was none for
 /// the first piece: then nothing was written. After each of them the client stands where all pieces
 /// that were read have led it.
 pub fn converse<K: Kernel, R: Read, W: Write>(

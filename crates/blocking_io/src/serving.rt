@@ -130,15 +130,15 @@ fn answer_piece<K: Kernel, C: Connection>(
 
 /// Makes one turn of session `id`: reads a piece of at most 65,536 bytes and serves it, frame by
 /// frame. The reply to each frame is written before the next one is looked at, so that one reply is
-/// kept at most. Returns how the session came to its end, or `None` where it is open still.
+/// kept at most. Returns how the session came to its end, or `None` if it is open still.
 ///
 /// `buffer` has room for a piece, as `connection_io::piece_buffer` makes it, and `out` is for the
 /// replies: what they held is lost.
 ///
 /// # Errors
 ///
-/// `Read` exactly when the read failed: nothing was served. `Write` where a write failed, after
-/// which there is no other: a part of the replies went out, from their start on. `Memory` where
+/// `Read` exactly when the read failed: nothing was served. `Write` if a write failed, after
+/// which there is no other: a part of the replies went out, from their start on. `Memory` if
 /// there was none for a reply: the replies before it were written, and the session is closed.
 pub fn serve_turn<K: Kernel, C: Connection>(
     core: &mut ServerCore<K>,
@@ -202,14 +202,14 @@ fn serve_opened<K: Kernel, C: Connection>(
 /// Opens session `id`, serves it over a connection in at most `turns` turns, each of them
 /// [`serve_turn`], and takes it away at the end, whatever happened. No other session changes.
 ///
-/// `Closed` in the turn whose piece closed the session, and `EndOfInput` where the connection had
+/// `Closed` in the turn whose piece closed the session, and `EndOfInput` if the connection had
 /// no more. After these, and after a fault, no call is made.
 ///
 /// # Errors
 ///
 /// `IdInUse` exactly when there was a session of this number: it is left alone, and nothing is
-/// read. Those of the last turn, `Read`, `Write` and `Memory`; `Memory` also where there was none
-/// to begin with, and nothing was read. `TurnsUsedUp` where the session was open after all turns.
+/// read. Those of the last turn, `Read`, `Write` and `Memory`; `Memory` also if there was none
+/// to begin with, and nothing was read. `TurnsUsedUp` if the session was open after all turns.
 pub fn serve_over<K: Kernel, C: Connection>(
     alloc: Global,
     core: &mut ServerCore<K>,
@@ -239,15 +239,15 @@ pub fn serve_over<K: Kernel, C: Connection>(
 /// 65,536 bytes each, and takes it away at the end, whatever happened: [`serve_over`] the two. The
 /// replies to each piece are written before the next is read, and no other session changes.
 ///
-/// `Closed` in the turn whose piece closed the session, without another read; `EndOfInput` where
+/// `Closed` in the turn whose piece closed the session, without another read; `EndOfInput` if
 /// the reader has no more. At both, exactly the replies to what was read were written.
 ///
 /// # Errors
 ///
 /// `IdInUse` exactly when there was a session of this number: it is left alone, and nothing is
-/// read. `Read` where a read failed, and `TurnsUsedUp` where the session was open after all turns:
-/// the replies to what was read were written. `Write` where a write failed or took no byte: a part
-/// of the replies was written, from their start on. `Memory` where there was none for the session
+/// read. `Read` if a read failed, and `TurnsUsedUp` if the session was open after all turns:
+/// the replies to what was read were written. `Write` if a write failed or took no byte: a part
+/// of the replies was written, from their start on. `Memory` if there was none for the session
 /// or for a reply: the replies before it were written. A turn's faults come in the order `Read`,
 /// `Write`, `Memory`.
 pub fn serve<K: Kernel, R: Read, W: Write>(

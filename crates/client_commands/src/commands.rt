@@ -48,9 +48,9 @@ pub struct Retrieved {
 ///
 /// # Errors
 ///
-/// The first failure ends it: `Refused`, `Stale` or `Unreadable` exactly where the event that came
-/// of a call's reply says so, `ShortSecrets` where the Welcome names a smaller dimension than
-/// `least`, `Call` where the client refused a call, and `Conversation` where that over a call came
+/// The first failure ends it: `Refused`, `Stale` or `Unreadable` exactly if the event that came
+/// of a call's reply says so, `ShortSecrets` if the Welcome names a smaller dimension than
+/// `least`, `Call` if the client refused a call, and `Conversation` if that over a call came
 /// to no event.
 pub fn get<K: Kernel, R: Read, W: Write>(
     alloc: Global,

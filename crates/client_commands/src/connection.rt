@@ -62,7 +62,7 @@ fn failure_of_event(event: &Event) -> Option<CommandError>
 ///
 /// # Errors
 ///
-/// `ShortSecrets` where they are fewer than the least number accepted.
+/// `ShortSecrets` if they are fewer than the least number accepted.
 pub fn check_dimension<K: Kernel>(client: &ClientCore<K>, least: usize) -> Result<(), CommandError>
     ensures { MatchResult result (λ _. least ≤ secret_len client.now.state.known)
         (λ e. (e ≡ fault.ShortSecrets (secret_len client.now.state.known)) ×

@@ -21,7 +21,7 @@ use std::io::{Read, Write};
 ///
 /// # Errors
 ///
-/// `Refused` where the server refused it, `Call` where the client did, `Conversation` where that
+/// `Refused` if the server refused it, `Call` if the client did, `Conversation` if that
 /// over the call came to no event.
 pub fn greet<K: Kernel, R: Read, W: Write>(
     alloc: Global,
@@ -82,7 +82,7 @@ fn is_another_profile(greeted: &Result<Event, CommandError>) -> bool
 ///
 /// # Errors
 ///
-/// As those of [`greet`], and `Stale` where another version was published meanwhile.
+/// As those of [`greet`], and `Stale` if another version was published meanwhile.
 pub fn sync<K: Kernel, R: Read, W: Write>(
     alloc: Global,
     client: &mut ClientCore<K>,

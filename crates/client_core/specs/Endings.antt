@@ -51,7 +51,7 @@ IsNoSync (Delta since) = ⊥
 IsNoSync (Changes since) = ⊥
 IsNoSync _ = Unit {0}
 
--- what a client is fed leaves the hint as it is where no sync is outstanding, unless it fails
+-- what a client is fed leaves the hint as it is if no sync is outstanding, unless it fails
 abbrev pub OnlySyncsChangeTheHint : Type 0
 OnlySyncsChangeTheHint = (old new : Client) (piece out : List ℕ) (events : List Event) (fault : Option ClientFault) →
     FeedsClient old piece out events fault new → IsNoSync old.state.call → new.state.failed ≡ false → new.state.hint ≡ old.state.hint

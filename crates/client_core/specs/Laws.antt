@@ -47,7 +47,7 @@ abbrev pub number_of_call : ClientState → ClientCall → List ℕ
 number_of_call c (Ask i) = c.number ∷ []
 number_of_call c _ = []
 
--- the numbers of the queries sent then: one, where the call is an ask
+-- the numbers of the queries sent then: one, if the call is an ask
 abbrev pub numbers_at : ClientState → Happening → List ℕ
 numbers_at c (Accepted want) = number_of_call c want
 numbers_at c _ = []
@@ -97,7 +97,7 @@ abbrev pub ArePartsOf : Scheme → List ℕ → ℕ → ℕ → List Frame → T
 ArePartsOf s whole v j [] = Unit {0}
 ArePartsOf s whole v j (f ∷ fs) = (f ≡ frame.HintPart (scheme_byte s) v j (part_of whole j)) × ArePartsOf s whole v (j + 1) fs
 
--- where the parts are those of a hint, the hint held is that hint
+-- if the parts are those of a hint, the hint held is that hint
 abbrev pub PartsOfAHintMakeIt : Type 0
 PartsOfAHintMakeIt = (c : ClientState) (s : Scheme) (k : ServerInfo) (v version : ℕ) (replies : List Frame) (hint : WordMatrix) →
     IsSyncedBy c s k v version replies → hint.rows ≡ hint_rows s (shape_known k) k.plan.dimension → hint.cols ≡ k.plan.dimension → IsWhole hint →
@@ -108,7 +108,7 @@ PartsOfAHintMakeIt = (c : ClientState) (s : Scheme) (k : ServerInfo) (v version 
 abbrev pub rows_of : WordMatrix → List ℕ → List Row
 rows_of m numbers = map (λ i. record { number = i; words = row m i }) numbers
 
--- Where the rows of a Delta are those of a hint, and each row that it doesn't name is the same in
+-- If the rows of a Delta are those of a hint, and each row that it doesn't name is the same in
 -- the hint held, the hint held is that hint then.
 abbrev pub DeltaMakesTheHint : Type 0
 DeltaMakesTheHint = (c : ClientState) (k : ServerInfo) (h : Hint) (since now count : ℕ) (hint : WordMatrix) (numbers : List ℕ) →

@@ -109,7 +109,7 @@ takes_part _ c scheme version part words = faulty c BadReply
 
 -- ---- Answer
 
--- the record read, or unreadable where there is none
+-- the record read, or unreadable if there is none
 abbrev pub event_read : ℕ → ℕ → Option (List ℕ) → Event
 event_read i version (Some bytes) = Retrieved i version bytes
 event_read i version None = Unreadable i version
@@ -147,7 +147,7 @@ is_current k version count = nat_lt 0 version && is_layout (shape_at k.plan coun
 abbrev pub with_current : ServerInfo → ℕ → ℕ → ServerInfo
 with_current k version count = record k { version = version; count = count }
 
--- the version and the count named are the last known, where these are another version than asked
+-- the version and the count named are the last known, if these are another version than asked
 -- and a count within the limits. The state is the one given first
 abbrev pub reaction_to_stale : Option ServerInfo → ClientState → ClientState → ℕ → ℕ → ℕ → AfterReply
 reaction_to_stale None after c asked version count = faulty c BadReply

@@ -21,7 +21,7 @@ abbrev pub saved_of : ClientState → SavedClient
 saved_of c = record { number = c.number; known = c.known; hint = c.hint }
 
 -- What was known of a server can have become what is known now: the plan is equal, the version no
--- earlier, and the records are no fewer, as many where the version is the same.
+-- earlier, and the records are no fewer, as many if the version is the same.
 pub record HasBecome (then now : ServerInfo) : Type 0 where
   pub plan : then.plan ≡ now.plan
   pub version : then.version ≤ now.version
@@ -68,7 +68,7 @@ let_in profile seed number key now = (takes_welcome (call.Hello key) (state_afte
 
 -- A new client of the same seed and number, let in by what the server has become, goes on as the
 -- client that was saved, with all that this one knew and held but for what the server reports now;
--- and asks at once where the hint is of this version.
+-- and asks at once if the hint is of this version.
 pub record IsTheSaved (c : ClientState) (now : ServerInfo) (hint : Hint) (result : Result Bool CallFault) (new : ClientState) : Type 0 where
   pub taken_up : result ≡ Ok true
   pub state : new ≡ record c { known = Some now; parts = []; call = call.Idle; failed = false }

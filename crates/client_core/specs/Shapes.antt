@@ -263,7 +263,7 @@ abbrev pub after_part : Awaited → Outline → ℕ → ℕ → ℕ → ℕ → 
 after_part (APart s v p) x scheme version part count = after_asked_part x.known s x v p scheme version part count
 after_part _ x scheme version part count = fails x
 
--- a Delta gives the hint held its version, where it is one that was asked for
+-- a Delta gives the hint held its version, if it is one that was asked for
 abbrev pub after_asked_delta : Option ServerInfo → Option HintName → Outline → ℕ → ℕ → ℕ → ℕ → ℕ → List ℕ → Reacted
 after_asked_delta None hint x asked since now count dimension numbers = fails x
 after_asked_delta (Some k) None x asked since now count dimension numbers = fails x
@@ -319,7 +319,7 @@ abbrev pub after_answer : Awaited → Outline → ℕ → ℕ → ℕ → Reacte
 after_answer (AnAnswer v) x scheme version count = after_asked_answer x.known x.hint x v scheme version count
 after_answer _ x scheme version count = fails x
 
--- the version and the count are the last known, where these are another version than asked and a
+-- the version and the count are the last known, if these are another version than asked and a
 -- count within the limits
 abbrev pub after_asked_stale : Option ServerInfo → Outline → Outline → ℕ → ℕ → ℕ → Reacted
 after_asked_stale None dropped x asked version count = fails x
@@ -432,7 +432,7 @@ taken_of c [] = []
 taken_of c (f ∷ fs) =
     Replied f ∷ (if is_some (fault_of (reaction_to_reply c f).reaction) then [] else taken_of (reaction_to_reply c f).state fs)
 
--- the client's failure, where the codec stopped
+-- the client's failure, if the codec stopped
 abbrev pub failure_at : Result (Unit {0}) ReadFault → List Happening
 failure_at (Ok done) = []
 failure_at (Err fault) = Failing ∷ []
@@ -466,8 +466,8 @@ pub record NothingHappened (old : Client) (out : List ℕ) (events : List Event)
   pub reported : events ≡ []
   pub same : new ≡ old
 
--- All that a client writes are the frames of happenings: of an accepted call; of none where a call
--- is refused; and of the replies that it is fed, taken one after another, up to its failure, where
+-- All that a client writes are the frames of happenings: of an accepted call; of none if a call
+-- is refused; and of the replies that it is fed, taken one after another, up to its failure, if
 -- no memory is refused. What it reports are their events, and nothing happens once it has failed.
 pub record ClientsHappen : Type 0 where
   pub accepted : (old new : ClientState) (want : ClientCall) (bytes : List ℕ) → Accepts old want new bytes →

@@ -33,12 +33,12 @@ is_ready None hint = false
 is_ready (Some k) None = false
 is_ready (Some k) (Some h) = h.version == k.version
 
--- the scheme of the hint held; SimplePIR stands where there is none
+-- the scheme of the hint held; SimplePIR if there is none
 abbrev pub scheme_held : Option Hint → Scheme
 scheme_held None = Simple
 scheme_held (Some h) = h.scheme
 
--- the version, where the scheme is SimplePIR
+-- the version, if the scheme is SimplePIR
 abbrev pub simple_version : Scheme → ℕ → Option ℕ
 simple_version Simple version = Some version
 simple_version Double version = None
@@ -70,7 +70,7 @@ shape_known k = shape_at k.plan k.count
 abbrev pub IsKnown : ServerInfo → Type 0
 IsKnown k = IsPlan k.plan k.count
 
--- what the server reported is within the limits, where a Welcome came
+-- what the server reported is within the limits, if a Welcome came
 abbrev pub KnownFits : Option ServerInfo → Type 0
 KnownFits None = Unit {0}
 KnownFits (Some k) = IsKnown k

@@ -117,7 +117,7 @@ pub(crate) fn spend_number(state: &mut ClientState) -> u64
     number
 }
 
-/// The scheme of the hint held; SimplePIR where there is none.
+/// The scheme of the hint held; SimplePIR if there is none.
 pub(crate) fn scheme_of(hint: &Option<Hint>) -> Scheme
     ensures { result ≡ scheme_held hint.now }
 {

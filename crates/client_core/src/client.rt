@@ -147,7 +147,7 @@ impl<K: Kernel> ClientCore<K> {
     }
 
     /// Leaves the numbers below `next` alone, at most 2^62: the next retrieval has that number, or
-    /// the one that it would have had where that is larger.
+    /// the one that it would have had if that is larger.
     pub fn skip_to(&mut self, next: u64)
         requires { next ≤ 2 ^ 62 }
         ensures state { self.new.state ≡
@@ -178,8 +178,8 @@ impl<K: Kernel> ClientCore<K> {
     }
 
     /// Goes on with what was saved of another client, once this one was let in. Returns whether its
-    /// hint is held now: it is, where the plan is equal, neither the version known then nor the
-    /// hint's is later than the server's, the records were no more, and as many where the version
+    /// hint is held now: it is, if the plan is equal, neither the version known then nor the
+    /// hint's is later than the server's, the records were no more, and as many if the version
     /// is the same. Else the hint saved is dropped, and all is as it was. The number saved is left
     /// alone: [`new`](ClientCore::new) takes it.
     ///
@@ -200,7 +200,7 @@ impl<K: Kernel> ClientCore<K> {
         Ok(true)
     }
 
-    /// Drops the hint held, where there is one: the next sync goes by parts.
+    /// Drops the hint held, if there is one: the next sync goes by parts.
     ///
     /// Refused in this order: `Failed`, `NotReady` (no Welcome came yet), `Busy`. A refusal changes
     /// nothing.
@@ -306,7 +306,7 @@ impl<K: Kernel> ClientCore<K> {
     ///
     /// Refused in this order: `Failed`; `NotReady` (no Welcome came yet, no hint is held, or its
     /// version is not the last version known); `Busy`; `BadIndex` (the last version known has no
-    /// such record); `SeedUsedUp` (the next number is 2^62); `Memory`. The number is spent where
+    /// such record); `SeedUsedUp` (the next number is 2^62); `Memory`. The number is spent if
     /// only `Memory` is left, and nothing else changes by a refusal.
     pub fn ask(&mut self, index: u32) -> Result<Vec<u8>, CallFault>
         ensures accepted { IfOk result (λ bytes. Accepts self.old.state
@@ -413,10 +413,10 @@ impl<K: Kernel> ClientCore<K> {
     /// Takes the next piece of the server's stream.
     ///
     /// Each frame that is whole now is taken as the reply to the outstanding call. `BadWelcome`
-    /// where a Welcome has a profile that is no form of these records, sizes beyond the limits or
-    /// version 0; `BadReply` where a reply is none that the outstanding call can have, where no
-    /// call is outstanding, and where the bytes are no frame; `Memory` where memory was refused;
-    /// `Failed` where an earlier feed had a fault. After each of them every call answers `Failed`.
+    /// if a Welcome has a profile that is no form of these records, sizes beyond the limits or
+    /// version 0; `BadReply` if a reply is none that the outstanding call can have, if no
+    /// call is outstanding, and if the bytes are no frame; `Memory` if memory was refused;
+    /// `Failed` if an earlier feed had a fault. After each of them every call returns `Failed`.
     pub fn feed(&mut self, piece: &[u8]) -> Fed
         ensures { FeedsClient self.old piece.now result.out.items result.events.items result.fault
             self.new }

@@ -57,7 +57,7 @@ pub(crate) fn take_delta(
     ends(state, Event::Synced(Scheme::Simple, now))
 }
 
-// What is known after a Delta, where it is one that was asked for.
+// What is known after a Delta, if it is one that was asked for.
 fn known_after(
     known: &ServerInfo,
     asked: u64,

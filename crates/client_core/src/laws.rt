@@ -31,7 +31,7 @@ pub fn synced_hint_is_made_of_parts()
     ensures { SyncedHintIsMadeOfParts }
 {}
 
-/// Where these are the parts of a hint of the right size, it is that hint.
+/// If these are the parts of a hint of the right size, it is that hint.
 pub fn parts_of_a_hint_make_it()
     ensures { PartsOfAHintMakeIt }
 {}
@@ -59,7 +59,7 @@ pub fn feeding_spends_no_number()
     ensures { FeedingSpendsNoNumber }
 {}
 
-/// What a client is fed leaves the hint as it is where no sync is outstanding, unless the client
+/// What a client is fed leaves the hint as it is if no sync is outstanding, unless the client
 /// fails.
 pub fn only_syncs_change_the_hint()
     ensures { OnlySyncsChangeTheHint }
@@ -67,13 +67,13 @@ pub fn only_syncs_change_the_hint()
 
 /// The frames that a client sends have the kinds and lengths that its calls without their indices,
 /// and the replies without their words, give. So no index changes the lengths or the order of its
-/// frames; and whether a call is refused doesn't depend on its index, where that is below the count
+/// frames; and whether a call is refused doesn't depend on its index, if that is below the count
 /// known.
 pub fn shapes_hold_no_index()
     ensures { EqualShapes }
 {}
 
-/// All that a client writes, where no feed was refused memory, are the frames of what happens to
+/// All that a client writes, if no feed was refused memory, are the frames of what happens to
 /// it: of accepted calls, and of the replies that the pieces fed make whole, one after another; and
 /// the events that it reports are those of these replies, in their order. So the law of equal
 /// shapes speaks of each byte that calls and such feeds give.
@@ -82,7 +82,7 @@ pub fn clients_happen()
 {}
 
 /// A new client of the same seed and number that is let in goes on as the client that was saved: it
-/// has exactly that state, with what the server reports now; and it asks at once where the hint is
+/// has exactly that state, with what the server reports now; and it asks at once if the hint is
 /// of this version.
 pub fn resumed_is_the_saved()
     ensures { ResumedIsTheSaved }

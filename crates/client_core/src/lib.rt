@@ -2,7 +2,7 @@
 //!
 //! A client is a state machine without a connection. A call gives the bytes to send; `feed` takes
 //! the bytes that came, in any pieces, and gives the bytes to send next and the events. It holds at
-//! most one hint and one outstanding call, and answers `Failed` to everything once a reply was bad
+//! most one hint and one outstanding call, and returns `Failed` for everything once a reply was bad
 //! or memory was refused while it took one. What lasts of a client can be saved, and a later one
 //! that is let in goes on with it.
 //!

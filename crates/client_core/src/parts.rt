@@ -36,7 +36,7 @@ impl Parts {
         self.words.len()
     }
 
-    /// Adds the words of one more part. Where memory is refused nothing is added.
+    /// Adds the words of one more part. If memory is refused nothing is added.
     pub fn add(&mut self, words: &[u32]) -> Result<(), AllocError>
         ensures ok { OnOk result (self.new ≡ self.old ++ words.now) }
         ensures err { OnErr result (self.new ≡ self.old) }

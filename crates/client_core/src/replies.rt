@@ -281,7 +281,7 @@ pub(crate) fn take_stale(
     ends(state, Event::Stale(version))
 }
 
-// What is known after Stale, where it may name this version and count.
+// What is known after Stale, if it may name this version and count.
 fn known_after_stale(
     known: &Option<ServerInfo>,
     asked: u64,
@@ -303,7 +303,7 @@ fn known_after_stale(
 }
 
 /// What is known after a reply that names this version as the current one, with so many records,
-/// where it may.
+/// if it may.
 pub(crate) fn current_of(known: &ServerInfo, version: u64, count: u32) -> Option<ServerInfo>
     ensures { MatchOption result (is_current known.now version count ≡ false)
         (λ k. (is_current known.now version count ≡ true) ×

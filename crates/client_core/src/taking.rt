@@ -85,7 +85,7 @@ fn take_frame<K: Kernel>(
     }
 }
 
-// Adds what a reaction sends and what it reports, and answers its fault. Where memory is refused
+// Adds what a reaction sends and what it reports, and returns its fault. If memory is refused
 // nothing is added.
 fn react(
     reaction: Reaction,
@@ -122,7 +122,7 @@ fn react(
     }
 }
 
-// Takes one reply, and answers its fault.
+// Takes one reply, and returns its fault.
 #[tactic(auto, using(crate::proofs::Keeping::takes_keeps))]
 fn take_one<K: Kernel>(
     alloc: Global,

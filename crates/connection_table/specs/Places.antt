@@ -4,7 +4,7 @@ use Rattle.std.specs.List.{count_by, sum_by, IsFirstMaxByKey}
 use Rattle.service_watch.specs.Counts.{saturating}
 use Rattle.connection_table.specs.declared.connection.Connection.{Connection}
 
--- the connection at a place; none where the place is free, or there is no such place
+-- the connection at a place; none if the place is free, or there is no such place
 abbrev pub connection_at : List (Option Connection) → ℕ → Option Connection
 connection_at places i = slice_index_or places i None
 

@@ -6,7 +6,7 @@ use Rattle.service_watch.specs.Replies.{reply_head}
 use Rattle.connection_table.specs.declared.connection.Connection.{Connection}
 
 -- the reply that is at the end of what is owed, after so many bytes that were looked at; the one
--- before where there is none
+-- before if there is none
 abbrev pub seen_reply : ℕ → List ℕ → Option ReplyHead → Option ReplyHead
 seen_reply seen owed before = cond (nat_lt seen (length owed)) (reply_head (drop seen owed)) before
 

@@ -134,12 +134,12 @@ impl Connection {
         }
     }
 
-    /// Makes a turn: one read at most, one frame, unless it is put off, and one write, or, where
+    /// Makes a turn: one read at most, one frame, unless it is put off, and one write, or, if
     /// all was written, a read that is forgotten. No other connection's session changes.
     ///
     /// # Errors
     ///
-    /// Where a version could not be saved: no other turn can be made.
+    /// If a version could not be saved: no other turn can be made.
     pub fn take_turn<S: Saver + Drop>(
         &mut self,
         rt: &HostRuntime,
@@ -169,7 +169,7 @@ impl Connection {
         }
     }
 
-    /// What is to be done with it after a turn: one that would go on is closed exactly where it is
+    /// What is to be done with it after a turn: one that would go on is closed exactly if it is
     /// idle.
     pub fn close_if_idle(&self, now: u64, idle: u64, outcome: TurnResult) -> TurnResult
         ensures idle { GoesOn outcome → IsIdle self.now now idle →

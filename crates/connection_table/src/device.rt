@@ -23,7 +23,7 @@ pub trait Saver {
     ///
     /// # Errors
     ///
-    /// Where it could not be appended: nothing of it is left, or, if that can't be had either, a
+    /// If it could not be appended: nothing of it is left, or, if that can't be had either, a
     /// part may be.
     fn append(&mut self, rt: &HostRuntime, store: &Store<Lanes>) -> Result<(), AppendFailed>
         requires saved { saved self.old ≡ store.now.version }
@@ -36,7 +36,7 @@ pub trait Saver {
     ///
     /// # Errors
     ///
-    /// Where that could not be done: nothing may be written any more, on any connection.
+    /// If that could not be done: nothing may be written any more, on any connection.
     fn take_back(&mut self, rt: &HostRuntime, store: &Store<Lanes>) -> Result<(), SaveFailed>
         requires appended { saved self.old ≡ store.now.version + 1 }
         ensures ok { OnOk result (saved self.new ≡ store.now.version) };

@@ -69,7 +69,7 @@ impl<S: Saver> SavedServer<S> {
         }
     }
 
-    /// Takes the session of a connection away, where it has one, and no other.
+    /// Takes the session of a connection away, if it has one, and no other.
     pub fn close_session(&mut self, id: u64)
         ensures { DoesToCore self.old.core (Closes id) self.new.core }
     {

@@ -32,7 +32,7 @@ impl ConnectionTable {
     ///
     /// # Errors
     ///
-    /// `AllocError` where there is no memory for them.
+    /// `AllocError` if there is no memory for them.
     pub fn new(alloc: Global, most: usize, memory: usize) -> Result<ConnectionTable, AllocError>
         ensures free { IfOk result (λ places. places.connections.items ≡ replicate most None) }
         ensures memory { IfOk result (λ places. places.memory ≡ memory) }

@@ -52,7 +52,7 @@ impl Connection {
     }
 
     /// Notes after a turn how much is held for it, and returns what is to be done with it: one that
-    /// would go on is closed where it is idle, and its writing is ended if the service stops and
+    /// would go on is closed if it is idle, and its writing is ended if the service stops and
     /// nothing of it is left to be served.
     pub fn end_turn<S: Saver>(
         &mut self,

@@ -126,7 +126,7 @@ pub record Keeps (moves : List Move) (l : ConnectionSeen) : Type 0 where
 abbrev pub LinksKeep : Type 0
 LinksKeep = (moves : List Move) (now : ℕ) (l : ConnectionSeen) → FoldsTo MovesTo (accepted now) moves l → Keeps moves l
 
--- What is awaited is a part of what is owed, and is nothing only where nothing is owed.
+-- What is awaited is a part of what is owed, and is nothing only if nothing is owed.
 pub record IsAwaited (l : ConnectionSeen) : Type 0 where
   pub part : l.awaited ≤ length l.owed
   pub some : l.awaited ≡ 0 → l.owed ≡ []

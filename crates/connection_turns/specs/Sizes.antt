@@ -5,7 +5,7 @@ use Rattle.std.specs.Prelude.{ℕ}
 abbrev pub piece_size : ℕ
 piece_size = 65536
 
--- Where so many bytes are owed, no further frame is served, and nothing more is read.
+-- If so many bytes are owed, no further frame is served, and nothing more is read.
 abbrev pub owed_limit : ℕ
 owed_limit = 65536
 

@@ -53,7 +53,7 @@ ReadsSome does old a new b =
     (does a ReadLater b × (new ≡ old)) ⊎ ((does a (Read 65536 []) b × (new ≡ after_end old))
     ⊎ ((bytes : List ℕ) × (0 < length bytes) × does a (Read 65536 bytes) b × (new ≡ after_receipt bytes old)))
 
--- one read at most, where the connection may read
+-- one read at most, if the connection may read
 abbrev pub ReadsOnce : {C : Type 0} → (C → Call → C → Type 0) → ConnectionSeen → C → Result (Unit {0}) Fault → ConnectionSeen → C → Type 0
 ReadsOnce does old a (Ok done) new b = ((MayRead old → ⊥) × (new ≡ old) × (b ≡ a)) ⊎ (MayRead old × ReadsSome does old a new b)
 ReadsOnce does old a (Err fault.Read) new b = MayRead old × does a ReadFails b × (new ≡ old)
@@ -116,7 +116,7 @@ pub record FailsToAppend {C : Type 0} (does : C → Call → C → Type 0) (call
   pub link_is : new ≡ old
   pub core_is : after ≡ before
 
--- One frame at most, where one may be served. If it publishes, the publication is appended before:
+-- One frame at most, if one may be served. If it publishes, the publication is appended before:
 -- if nothing of that is left, nothing is served, and if a part of it may be left, or it could not
 -- be taken back, nothing may be written any more. Only a query or a publication is put off; that
 -- changes nothing, and no call is made for it.
@@ -132,7 +132,7 @@ ServesOnce does id now old before a (Err fault.Save) new after b =
     MayServe old × (FailsToAppend does AppendLost id old before a new after b ⊎ Publishes does id now old before a (Err fault.Save) new after b)
 ServesOnce does id now old before a (Err fault.Read) new after b = ⊥
 
--- one write at most, where something is owed
+-- one write at most, if something is owed
 abbrev pub WritesOnce : {C : Type 0} → (C → Call → C → Type 0) → ℕ → ConnectionSeen → C → Result (Unit {0}) Fault → ConnectionSeen → C → Type 0
 WritesOnce does now old a (Ok done) new b =
     ((old.owed ≡ []) × (new ≡ old) × (b ≡ a)) ⊎ ((does a WriteLater b × (new ≡ old))

@@ -69,7 +69,7 @@ impl ByteQueue {
         }
     }
 
-    // Gives the room of what was used up back, where there is memory to move the rest.
+    // Gives the room of what was used up back, if there is memory to move the rest.
     fn give_back(&mut self)
         ensures { self.new ≡ self.old }
     {
@@ -86,7 +86,7 @@ impl ByteQueue {
         self.as_slice().is_empty()
     }
 
-    /// Adds bytes where none is left.
+    /// Adds bytes if none is left.
     pub fn fill(&mut self, bytes: &[u8]) -> Result<(), AllocError>
         requires empty { self.old ≡ [] }
         ensures ok { OnOk result (self.new ≡ bytes.now) }

@@ -18,7 +18,7 @@ use std::marker::Model;
 /// The most bytes that one read brings.
 pub const PIECE_LEN: usize = 65_536;
 
-/// Where so many bytes are owed no further frame is served, and nothing more is read.
+/// If so many bytes are owed no further frame is served, and nothing more is read.
 const OWED_LIMIT: usize = 65_536;
 
 /// A connection: what was received and not yet served, what is owed and not yet written.
@@ -128,7 +128,7 @@ impl ConnectionState {
     ///
     /// # Errors
     ///
-    /// Where memory was refused: nothing changes, and the bytes are lost, so the connection is to
+    /// If memory was refused: nothing changes, and the bytes are lost, so the connection is to
     /// be closed.
     pub fn receive(&mut self, bytes: &[u8]) -> Result<(), AllocError>
         requires all_served { self.old.unserved ≡ [] }
@@ -168,7 +168,7 @@ impl ConnectionState {
     ///
     /// # Errors
     ///
-    /// Where memory was refused: nothing was served, the session is closed, and the connection is
+    /// If memory was refused: nothing was served, the session is closed, and the connection is
     /// to be closed.
     pub fn serve_next<K: Kernel>(
         &mut self,

@@ -49,7 +49,7 @@ pub trait Outside<K: Kernel> {
     ///
     /// # Errors
     ///
-    /// Where it could not be appended: nothing of it is left, or, if that can't be had either, a
+    /// If it could not be appended: nothing of it is left, or, if that can't be had either, a
     /// part may be.
     fn append(&mut self, store: &Store<K>) -> Result<(), AppendFailed>
         requires saved { saved self.old ≡ store.now.version }
@@ -64,20 +64,20 @@ pub trait Outside<K: Kernel> {
     ///
     /// # Errors
     ///
-    /// Where that could not be done: nothing may be written any more, on any connection.
+    /// If that could not be done: nothing may be written any more, on any connection.
     fn take_back(&mut self, store: &Store<K>) -> Result<(), SaveFailed>
         requires appended { saved self.old ≡ store.now.version + 1 }
         ensures ok { OnOk result (saved self.new ≡ store.now.version) }
         ensures did { does self.old (take_back_call result (store.now.version + 1)) self.new };
 
-    /// Reads into the start of the buffer, and returns how many bytes came. 0 is the end, where
+    /// Reads into the start of the buffer, and returns how many bytes came. 0 is the end, if
     /// there is room.
     fn read(&mut self, buffer: &mut [u8]) -> Result<usize, Stop>
         ensures within { IfOk result (λ n. n ≤ length buffer.new) }
         ensures did { does self.old (read_call result buffer.new) self.new }
         ensures kept { saved self.new ≡ saved self.old };
 
-    /// Writes some bytes from their start on, and returns how many were taken: one at least, where
+    /// Writes some bytes from their start on, and returns how many were taken: one at least, if
     /// there are any. It may be called only while the store's current version is saved, since the
     /// bytes may say that it was published.
     fn write(&mut self, store: &Store<K>, bytes: &[u8]) -> Result<usize, Stop>

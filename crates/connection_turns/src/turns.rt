@@ -53,7 +53,7 @@ impl Fault {
     }
 }
 
-/// Reads once at most, where the connection may read.
+/// Reads once at most, if the connection may read.
 fn read_once<K: Kernel, O: Outside<K>>(
     state: &mut ConnectionState,
     outside: &mut O,
@@ -126,7 +126,7 @@ fn serve_appended<K: Kernel, O: Outside<K>>(
     served
 }
 
-/// Serves one frame at most, where one may be served and it is not put off. If it publishes, the
+/// Serves one frame at most, if one may be served and it is not put off. If it publishes, the
 /// publication is appended before.
 fn serve_once<K: Kernel, O: Outside<K>>(
     state: &mut ConnectionState,
@@ -165,7 +165,7 @@ fn serve_once<K: Kernel, O: Outside<K>>(
     }
 }
 
-/// Writes once at most, where something is owed.
+/// Writes once at most, if something is owed.
 fn write_once<K: Kernel, O: Outside<K>>(
     state: &mut ConnectionState,
     core: &ServerCore<K>,
@@ -198,7 +198,7 @@ fn write_once<K: Kernel, O: Outside<K>>(
 /// # Errors
 ///
 /// The connection is to be closed at each of these but `Save`. `Read` exactly when a read failed.
-/// `Memory` where memory was refused for what came or for a frame. `Write` exactly when a write
+/// `Memory` if memory was refused for what came or for a frame. `Write` exactly when a write
 /// failed, or a publication could not be appended and nothing of it is left: then nothing was
 /// served, the draft stays, and the version before goes on being served. `Save` exactly when a part
 /// of a publication that could not be appended may be left, or one that was not made could not be

@@ -36,7 +36,7 @@ Answers old want (Err (call.Call fault)) new =
     × (new.core.reader ≡ old.core.reader) × (new.waiting ≡ old.waiting) × (new.events ≡ old.events)
 
 -- what a piece did to a session, as its answer says: nothing waited, and what the client gave waits
--- now, also where it stopped; or something waited, and nothing changed
+-- now, also if it stopped; or something waited, and nothing changed
 abbrev pub Feeds : ClientSession → List ℕ → Result (Unit {0}) FeedFault → ClientSession → Type 0
 Feeds old bytes (Ok done) new =
     (untaken old ≡ 0) × FeedsClient old.core bytes new.waiting.items new.events.items None new.core
@@ -44,7 +44,7 @@ Feeds old bytes (Err piece.Untaken) new = (0 < untaken old) × (new ≡ old)
 Feeds old bytes (Err (piece.Client fault)) new =
     (untaken old ≡ 0) × FeedsClient old.core bytes new.waiting.items new.events.items (Some fault) new.core
 
--- the file of the hint held, with what the server reported last; no byte where there is none
+-- the file of the hint held, with what the server reported last; no byte if there is none
 abbrev pub file_of : Option ServerInfo → Option Hint → List ℕ
 file_of None hint = []
 file_of (Some known) None = []
@@ -88,7 +88,7 @@ Resumes old bytes (Err (resume.File Read)) new = new ≡ old
 Resumes old bytes (Err (resume.File Memory)) new = new ≡ old
 Resumes old bytes (Err (resume.Call fault)) new = ResumesFrom old bytes (Err fault) new
 
--- the bytes of the record that an event gives, none where it gives no record
+-- the bytes of the record that an event gives, none if it gives no record
 abbrev pub event_record : Event → List ℕ
 event_record (event.Retrieved i v bytes) = bytes
 event_record _ = []

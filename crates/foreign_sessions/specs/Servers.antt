@@ -63,7 +63,7 @@ Feeds old id piece (Err (fault.Server e)) new = ServesPiece old id piece (Err e)
 
 -- What the first frame of a piece did, of which so many bytes were taken: what these do as a piece
 -- of their own. They are all bytes of the piece, or those up to the end of the first frame that
--- they make whole, and one at least where there is one. Its reply waits now, and no other session
+-- they make whole, and one at least if there is one. Its reply waits now, and no other session
 -- changed.
 pub record ServesFirst (old : ServerSession) (id : ℕ) (piece : List ℕ) (answer : Result ℕ FeedError) (new : ServerSession) : Type 0 where
   pub silent : length old.replies.items ≡ 0

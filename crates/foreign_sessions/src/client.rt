@@ -95,8 +95,8 @@ impl ClientSession {
         }
     }
 
-    /// [`ClientCore::hello`], whose bytes wait from then on. `Untaken` exactly where bytes wait
-    /// already, and then nothing changes; else as the client answers. What waits stays where the
+    /// [`ClientCore::hello`], whose bytes wait from then on. `Untaken` exactly if bytes wait
+    /// already, and then nothing changes; else as the client answers. What waits stays if the
     /// client refuses.
     pub fn hello(&mut self, key: [u8; 32]) -> Result<(), SessionFault>
         ensures { Answers self.old (ClientCall.Hello key) result self.new }
@@ -201,8 +201,8 @@ impl ClientSession {
     }
 
     /// [`ClientCore::feed`], of which the bytes and the events wait from then on. `Untaken` exactly
-    /// where bytes or events wait already, and then nothing changes; else as the client answers,
-    /// and what it gives waits also where it stops.
+    /// if bytes or events wait already, and then nothing changes; else as the client answers,
+    /// and what it gives waits also if it stops.
     pub fn feed(&mut self, piece: &[u8]) -> Result<(), FeedFault>
         ensures { Feeds self.old piece.now result self.new }
     {
@@ -303,7 +303,7 @@ impl ClientSession {
         self.events.first()
     }
 
-    /// How many bytes the record has that the first event gives: 0 where it gives none.
+    /// How many bytes the record has that the first event gives: 0 if it gives none.
     pub fn first_record_len(&self) -> usize
         ensures { result ≡ length (record_of self.now.events.items) }
     {
@@ -323,7 +323,7 @@ impl ClientSession {
         }
     }
 
-    /// Forgets the first event, where there is one.
+    /// Forgets the first event, if there is one.
     pub fn forget_first_event(&mut self)
         ensures events { self.new.events.items ≡ rest self.old.events.items }
         ensures core { self.new.core ≡ self.old.core }

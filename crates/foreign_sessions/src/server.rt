@@ -48,7 +48,7 @@ pub struct ServerSession {
 impl ServerSession {
     /// A server of the records of a snapshot file, of which these are all bytes, with no session.
     ///
-    /// The faults are those of [`read_snapshot`], in its order; `Memory` also where there is none
+    /// The faults are those of [`read_snapshot`], in its order; `Memory` also if there is none
     /// for the server.
     pub fn open(alloc: Global, bytes: &[u8]) -> Result<ServerSession, SnapshotFault>
         ensures opened { IfOk result (Opens bytes.now) }
@@ -92,7 +92,7 @@ impl ServerSession {
         self.core.is_open(id)
     }
 
-    /// [`ServerCore::feed`], whose replies wait from then on. `Untaken` exactly where replies wait
+    /// [`ServerCore::feed`], whose replies wait from then on. `Untaken` exactly if replies wait
     /// already, and then nothing changes; else as the server answers.
     pub fn feed(&mut self, id: u64, piece: &[u8]) -> Result<(), PieceFault>
         ensures { Feeds self.old id piece.now result self.new }

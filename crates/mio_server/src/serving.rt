@@ -90,9 +90,9 @@ struct Service {
 ///
 /// # Errors
 ///
-/// `Input` where standard input is to be watched and can't be, `Connect` where the address can't be
-/// listened on, `Status` where that is so of the status address, `Write` where a version can't be
-/// saved or the address not be printed, `Memory` where there is none to begin with. After a `Write`
+/// `Input` if standard input is to be watched and can't be, `Connect` if the address can't be
+/// listened on, `Status` if that is so of the status address, `Write` if a version can't be
+/// saved or the address not be printed, `Memory` if there is none to begin with. After a `Write`
 /// nothing was sent of the version that was not saved.
 pub fn run_service<S: Saver + Drop>(
     rt: &HostRuntime,
@@ -326,6 +326,7 @@ impl Service {
             self.old.schedule.scanned self.old.limits.idle }
     {
         let mut wait = 0;
+        // No service has so many rounds: the bound is there so that the loop has an end.
         for _ in 0..u64::MAX {
             server = self.round(rt, events, wait, server)?;
             match self.end_round(rt, events, status, &server)? {

@@ -12,7 +12,7 @@ use Rattle.pir_client.specs.declared.server.Address.{Address}
 use Rattle.pir_client.specs.declared.command_line.Task.{Task}
 use Rattle.pir_client.specs.declared.command_line.Task.TheVariants.{Get, Put, Append, Publish, Folder, Rehearse}
 
--- a least dimension, where there is one, is that of some secrets
+-- a least dimension, if there is one, is that of some secrets
 abbrev pub IsDimension : Option ℕ → Type 0
 IsDimension None = Unit {0}
 IsDimension (Some n) = (1 ≤ n) × (n ≤ 1024)
@@ -36,7 +36,7 @@ TaskFits Rehearse = Unit {0}
 abbrev pub IsNumberGiven : Found → List ℕ → ℕ → Type 0
 IsNumberGiven found name n = MatchOption (first_value found name) ⊥ (λ text. IsNumeral 10 text × (digits_value 10 text ≡ n))
 
--- what was given for a name, where anything was, is this number in decimal digits
+-- what was given for a name, if anything was, is this number in decimal digits
 abbrev pub IsNumberIfGiven : Found → List ℕ → Option ℕ → Type 0
 IsNumberIfGiven found name n =
     MatchOption (first_value found name) (n ≡ None) (λ text. IsNumeral 10 text × (n ≡ Some (digits_value 10 text)))

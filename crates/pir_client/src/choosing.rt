@@ -27,7 +27,7 @@ impl SchemeChoice {
     ///
     /// # Errors
     ///
-    /// Only where memory is refused.
+    /// Only if memory is refused.
     pub fn scheme(self, folder: &Folder<'_>, now: &ServerInfo) -> Result<Scheme, AllocError> {
         let times = match self {
             SchemeChoice::One(scheme) => return Ok(scheme),

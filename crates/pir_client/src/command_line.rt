@@ -433,7 +433,7 @@ pub fn scheme_named(name: &str) -> Option<Scheme>
     }
 }
 
-/// The least dimension that is accepted, where one is given.
+/// The least dimension that is accepted, if one is given.
 pub fn least_dimension<'a>(found: &ArgMatches<'a>) -> Result<Option<usize>, BadLine<'a>>
     ensures fits { IfOk result IsDimension }
     ensures read { IfOk result (IsNumberIfGiven (found_of found.now) (codes "least-dimension")) }

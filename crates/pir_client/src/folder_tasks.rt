@@ -15,7 +15,7 @@ use std::alloc::Global;
 /// How many seconds a server may take if no number is given.
 const TIMEOUT: u64 = 30;
 
-/// The least number of words that a secret has where none is given: the publication's.
+/// The least number of words that a secret has if none is given: the publication's.
 const WHOLE_SECRET: usize = 1024;
 
 const CHOICE_TAKES: &str = "--scheme takes simple, double or auto";
@@ -47,7 +47,7 @@ pub enum FolderTask<'a> {
     },
 }
 
-/// What the words of `get` ask for, where a folder is given.
+/// What the words of `get` ask for, if a folder is given.
 pub fn folder_get_task<'a>(
     alloc: Global,
     found: &ArgMatches<'a>,

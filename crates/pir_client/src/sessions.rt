@@ -156,7 +156,7 @@ impl<'a> Session<'a> {
         }
     }
 
-    /// Retrieves a record: again under a new number, with the hint of the next version, where the
+    /// Retrieves a record: again under a new number, with the hint of the next version, if the
     /// answer is stale.
     pub fn retrieve(&mut self, index: u32) -> Result<Retrieved, RetrieveError> {
         for _ in 0..STALE_ANSWERS {
@@ -255,7 +255,7 @@ impl<'a> Session<'a> {
         }
     }
 
-    // Asks for a record over its rows, which the client doesn't hold any more then. None where the
+    // Asks for a record over its rows, which the client doesn't hold any more then. None if the
     // hint is of another store: then nothing was asked, and the hint is of no more use.
     fn ask_over(&mut self, rows: Rows, index: u32) -> Result<Option<Retrieved>, RetrieveError> {
         let Rows { saved, are_sound } = rows;
@@ -402,7 +402,7 @@ fn let_in(
     Ok(client)
 }
 
-// The version that a server had reported last beside a hint kept; 0 where there is none.
+// The version that a server had reported last beside a hint kept; 0 if there is none.
 fn version_seen(kept: &Option<MovedHint<'_>>) -> u64 {
     match kept {
         Some(kept) => kept.fields().known.version,

@@ -28,12 +28,12 @@ const STATUS_DESCRIPTORS: u64 = 9;
 ///
 /// # Errors
 ///
-/// In this order: `File` where there is no file, `Locked` where another process has it, those of
-/// the snapshot, `Write` where the file can't be sent to the device, those of its log (`File`,
-/// `BadLog`, `Write` where a torn end can't be cut off, or where a log that is too long can't be
-/// made shorter), `Input` where standard input is to be watched and can't be, `Connect` where the
-/// address or that of `--status` can't be listened on, and `Write` where one can't be printed, or
-/// what is left of a failed append can't be cut off. `Memory` where there was none. A connection
+/// In this order: `File` if there is no file, `Locked` if another process has it, those of
+/// the snapshot, `Write` if the file can't be sent to the device, those of its log (`File`,
+/// `BadLog`, `Write` if a torn end can't be cut off, or if a log that is too long can't be
+/// made shorter), `Input` if standard input is to be watched and can't be, `Connect` if the
+/// address or that of `--status` can't be listened on, and `Write` if one can't be printed, or
+/// what is left of a failed append can't be cut off. `Memory` if there was none. A connection
 /// that is closed before its end is reported on standard error, and ends nothing else.
 pub fn run_file(rt: &HostRuntime, options: &RunOptions<'_>) -> Result<(), Failed> {
     let mut file = match OwnFile::to_read(rt, options.file) {
@@ -149,7 +149,7 @@ fn open_to_run(
     Ok((store, FileSaver { log }))
 }
 
-// How many connections there may be at once: as many as are asked for, or fewer where the process
+// How many connections there may be at once: as many as are asked for, or fewer if the process
 // may have too few descriptors, which is said then.
 fn possible_most(rt: &HostRuntime, asked: usize, others: u64) -> Result<usize, Failure> {
     let Some(descriptors) = descriptor_limit() else {
@@ -181,7 +181,7 @@ fn within_descriptors(asked: usize, descriptors: u64, others: u64) -> usize
     asked.min(usize::try_from(room).unwrap_or(usize::MAX))
 }
 
-// How many descriptors the process may have, where the system says it.
+// How many descriptors the process may have, if the system says it.
 fn descriptor_limit() -> Option<u64> {
     let mut limit = libc::types::rlimit {
         rlim_cur: 0,

@@ -24,7 +24,7 @@ const TRIES: u32 = 3;
 ///
 /// In this order: `File` if the folder has no snapshot, those of the snapshot, of its log (`File`,
 /// `BadLog`) and of the draft (`File`, `BadDraft`), and `Write` if the lines can't be printed.
-/// `Memory` where there was none.
+/// `Memory` if there was none.
 pub fn diff(rt: &HostRuntime, dir: &str) -> Result<(), Failed> {
     let (version, draft) = match read_folder(rt, dir) {
         Ok(both) => both,

@@ -29,7 +29,7 @@ pub enum ImportFault {
 /// of the snapshot, of its log (`File`, `BadLog`) and of the draft (`File`, `BadDraft`), `Read` if
 /// standard input can't be read, the first line that is refused, with its number, `TooLong` if no
 /// entry has room for the changes, and those of the draft's new entry (`VersionsUsedUp`, `Write`).
-/// `Memory` where there was none. Nothing of the lines is in the draft then.
+/// `Memory` if there was none. Nothing of the lines is in the draft then.
 pub fn import(rt: &HostRuntime, dir: &str) -> Result<Drafted, ImportFault> {
     let open = match open_draft(rt, dir) {
         Ok(open) => open,

@@ -29,7 +29,7 @@ const NOTHING_TO_PUBLISH: Failure = Failure::Fault("NothingToPublish");
 /// of the snapshot, of its log (`File`, `BadLog`) and of the draft (`File`, `BadDraft`),
 /// `NothingToPublish` if the draft changes nothing, `VersionsUsedUp` if there is no further
 /// version, `TooLong` if no publication has room for the changes, and `Write` if it can't be
-/// written or sent to the device. `Memory` where there was none.
+/// written or sent to the device. `Memory` if there was none.
 pub fn publish(rt: &HostRuntime, dir: &str) -> Result<FileVersion, Failed> {
     match publish_draft(rt, dir) {
         Ok(has) => Ok(has),

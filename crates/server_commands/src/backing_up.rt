@@ -15,7 +15,7 @@ const NOT_AS_WRITTEN: Failure = Failure::Fault("Write");
 ///
 /// In this order: those of the new file's lock (`File`, `Locked`), those of the file and its log
 /// (`File`, the refusals of the snapshot, `BadLog`), those of the new file (`File`, `Write`), and
-/// `Write` where it can't be read again as it was written. `Memory` where there was none.
+/// `Write` if it can't be read again as it was written. `Memory` if there was none.
 pub fn back_up(rt: &HostRuntime, backing_up: &BackingUp<'_>) -> Result<(), Failed> {
     let mut out = match OwnFile::to_write(rt, backing_up.out) {
         Ok(out) => out,

@@ -1,4 +1,4 @@
-//! The command `make` where the number of the records is given: they are written as they are read.
+//! The command `make` if the number of the records is given: they are written as they are read.
 
 ghost use Rattle.std.specs.Prelude.{◌≡◌, ◌≤◌, ℕ, List, length, IfOk, IfSome, OnOk};
 ghost use Rattle.snapshot_file.specs.Snapshots.{records_len};
@@ -21,10 +21,10 @@ use std::io::Read;
 /// # Errors
 ///
 /// The file is locked, and the new one beside it begun, before the records are read, and yet the
-/// faults of the input come first. In this order: `BadLayout` where no store has the header's
+/// faults of the input come first. In this order: `BadLayout` if no store has the header's
 /// layout, after `Read` and `BadRecords` of an input of more bytes than the largest store has;
-/// `Read`, `BadRecords` where there are fewer or more records, or a line is none that fits;
-/// `Locked`, `Exists` where the file is to be new and is not, `File`, `Write`. `Memory` where there
+/// `Read`, `BadRecords` if there are fewer or more records, or a line is none that fits;
+/// `Locked`, `Exists` if the file is to be new and is not, `File`, `Write`. `Memory` if there
 /// was none. Whatever stood at the name stays then.
 pub fn make_counted(rt: &HostRuntime, making: &Making<'_>, header: &Header) -> Result<u32, Failed> {
     if !header.is_accepted() {
@@ -117,7 +117,7 @@ fn bad_input(alloc: Global, header: &Header, fault: InputFault) -> Failed {
     Failed::by(BAD_RECORDS, cause)
 }
 
-// Reads to the end, and returns how many bytes came; none where there are more than so many.
+// Reads to the end, and returns how many bytes came; none if there are more than so many.
 fn rest_of<R: Read>(alloc: Global, reader: &mut R, most: usize) -> Result<Option<usize>, Failed>
     ensures { IfOk result (λ found. IfSome found (λ n. (n ≤ most)
         × IsReadWhole n (R.remaining reader.old) (R.remaining reader.new))) }

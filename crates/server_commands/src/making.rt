@@ -27,7 +27,7 @@ const MAX_WIDE_RECORD_BYTES: usize = 1_207_959_552;
 /// How many words a secret of a new store has.
 const DIMENSION: u16 = 1024;
 
-/// The failure of a file that is to be new, where something stands at its name.
+/// The failure of a file that is to be new, if something stands at its name.
 pub const EXISTS: Failure = Failure::Fault("Exists");
 
 /// The failure of record bytes that no store takes.
@@ -51,12 +51,12 @@ pub struct Keys {
 /// # Errors
 ///
 /// With `--count` the records are written as they are read, as [`make_counted`] says. Without it,
-/// in this order: those of the files of the seed and of the key (`File`, `Value`), `Exists` where
+/// in this order: those of the files of the seed and of the key (`File`, `Value`), `Exists` if
 /// the file is to be new and something stands at its name, those of the input (`Read`, `BadRecords`
-/// where there are more bytes than the largest store has), `BadLayout` where no store has this
-/// layout, `BadRecords` where these are not whole records or a line is none that fits, those of the
-/// file (`Locked` where another process has it, `Exists` once more, `File`, `Write`). `Memory`
-/// where there was none.
+/// if there are more bytes than the largest store has), `BadLayout` if no store has this
+/// layout, `BadRecords` if these are not whole records or a line is none that fits, those of the
+/// file (`Locked` if another process has it, `Exists` once more, `File`, `Write`). `Memory`
+/// if there was none.
 pub fn make(rt: &HostRuntime, making: &Making<'_>) -> Result<u32, Failed> {
     let keys = Keys {
         seed: making
@@ -191,7 +191,7 @@ fn fill_slots(alloc: Global, layout: &Layout, slots: &mut [u8], text: &str) -> R
 ///
 /// # Errors
 ///
-/// `BadRecords` where the line is none that fits, `Memory`.
+/// `BadRecords` if the line is none that fits, `Memory`.
 pub fn record_of_line(
     alloc: Global,
     line: usize,
@@ -275,7 +275,7 @@ fn whole_records(making: &Making<'_>, bytes: usize) -> usize
     }
 }
 
-// All bytes of a reader, where they are at most so many.
+// All bytes of a reader, if they are at most so many.
 fn read_input<R: Read>(alloc: Global, reader: &mut R, most: usize) -> Result<Vec<u8>, Failed>
     requires { most ≤ 2415919104 }
     ensures all { IfOk result (λ bytes. Consumes (R.remaining reader.old)

@@ -14,9 +14,9 @@ use sha2::{Digest, Sha256};
 ///
 /// # Errors
 ///
-/// In this order: those of the key's file (`File`, `Value`), `File` where there is no file,
-/// `Locked` where another process has it, those of its snapshot and its log (`BadLog`), and those
-/// of the new file (`File`, `Write`). `Memory` where there was none.
+/// In this order: those of the key's file (`File`, `Value`), `File` if there is no file,
+/// `Locked` if another process has it, those of its snapshot and its log (`BadLog`), and those
+/// of the new file (`File`, `Write`). `Memory` if there was none.
 pub fn rekey(rt: &HostRuntime, rekeying: &Rekeying<'_>) -> Result<(), Failed> {
     let key = match rekeying.key.key(rt, KEY_TAKES) {
         Ok(key) => key,

@@ -32,10 +32,10 @@ const DRAIN_WAIT: u64 = 100;
 ///
 /// # Errors
 ///
-/// In this order: `File` where there is no file, `Locked` where another process has it, those of
-/// the snapshot, `Write` where the file can't be sent to the device, those of its log (`File`,
-/// `BadLog`), `Connect` where the port can't be listened on, and after a connection that published
-/// `File` where the file can't be made anew and `Write` where it can't be written. `Memory` where
+/// In this order: `File` if there is no file, `Locked` if another process has it, those of
+/// the snapshot, `Write` if the file can't be sent to the device, those of its log (`File`,
+/// `BadLog`), `Connect` if the port can't be listened on, and after a connection that published
+/// `File` if the file can't be made anew and `Write` if it can't be written. `Memory` if
 /// there was none. A connection that ends with a fault is reported on standard error, and ends
 /// nothing else.
 pub fn serve_file(rt: &HostRuntime, serving: &Serving<'_>) -> Result<(), Failed> {
@@ -133,7 +133,7 @@ fn listen(rt: &HostRuntime, port: u16) -> Result<TcpListener, Failed> {
     Ok(listener)
 }
 
-// Why a connection did not come to a good end; None where it was not accepted.
+// Why a connection did not come to a good end; None if it was not accepted.
 type ConnectionFault = Option<ServeFault>;
 
 // Accepts the next connection, and serves its session.

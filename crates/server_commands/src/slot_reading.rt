@@ -47,7 +47,7 @@ impl<R: Read + Drop> SlotReader<R> {
     ///
     /// # Errors
     ///
-    /// `AllocError` where memory was refused.
+    /// `AllocError` if memory was refused.
     pub fn new(alloc: Global, lines: R, slot_len: u16) -> Result<SlotReader<R>, AllocError> {
         let piece = piece_buffer(alloc)?;
         Ok(SlotReader {
@@ -65,7 +65,7 @@ impl<R: Read + Drop> SlotReader<R> {
         })
     }
 
-    /// What failed, where that is known; else what another says.
+    /// What failed, if that is known; else what another says.
     pub fn failed_or(self, other: Failed) -> Failed {
         let SlotReader { failed, .. } = self;
         match failed {
@@ -108,7 +108,7 @@ impl<R: Read + Drop> SlotReader<R> {
         ))
     }
 
-    // Adds to the line what was read of it, and reads more where there is none.
+    // Adds to the line what was read of it, and reads more if there is none.
     fn add_to_line(&mut self) -> Result<Came, Failed> {
         if self.taken >= self.len {
             let Ok(n) = self.lines.read(&mut self.piece) else {

@@ -28,13 +28,13 @@ abbrev pub is_open : Option Session → Bool
 is_open None = false
 is_open (Some s) = not (is_closed s.standing)
 
--- how many bytes of an unfinished frame a session keeps; none where there is no session
+-- how many bytes of an unfinished frame a session keeps; none if there is no session
 abbrev pub unfinished_in : Option Session → ℕ
 unfinished_in None = 0
 unfinished_in (Some s) = unfinished_size s.unfinished
 
 -- the next frame of a session's stream is a publication that is made unless memory is refused; none
--- where there is no session
+-- if there is no session
 abbrev pub WouldPublishIn : Option Session → List ℕ → StoreState → Type 0
 WouldPublishIn None piece store = ⊥
 WouldPublishIn (Some s) piece store = WouldPublish s piece store
@@ -56,7 +56,7 @@ abbrev pub MayWait : Core → ℕ → List ℕ → Type 0
 MayWait core id piece =
     ((scheme : Scheme) × WouldAnswerIn (session_of core.sessions id) piece core.store scheme) ⊎ PublishesNext core id piece
 
--- what feeding a piece would do first; nothing that takes long where there is no session
+-- what feeding a piece would do first; nothing that takes long if there is no session
 abbrev pub IsComingIn : Coming → Option Session → List ℕ → StoreState → Type 0
 IsComingIn coming None piece store = coming ≡ Short
 IsComingIn coming (Some s) piece store = IsComing coming s piece store
@@ -80,13 +80,13 @@ FeedsCoreFirst x h old piece (Ok count) store new before after = FedFirst x h ol
 FeedsCoreFirst x h old piece (Err Memory) store new before after = (e : AllocError) × FedFirst x h old piece (Err e) store new before after
 FeedsCoreFirst x h old piece (Err NoSession) store new before after = ⊥
 
--- where there is no session
+-- if there is no session
 abbrev pub OnNoSession : {T : Type 0} → Result T FeedError → Type 0 → Type 0
 OnNoSession (Ok done) P = Unit {0}
 OnNoSession (Err NoSession) P = P
 OnNoSession (Err Memory) P = Unit {0}
 
--- where memory was refused
+-- if memory was refused
 abbrev pub OnMemory : {T : Type 0} → Result T FeedError → Type 0 → Type 0
 OnMemory (Ok done) P = Unit {0}
 OnMemory (Err NoSession) P = Unit {0}

@@ -1,4 +1,4 @@
--- What frames lead to where memory is never refused.
+-- What frames lead to if memory is never refused.
 use Rattle.std.specs.Prelude.{◌≡◌, ◌≢◌, ◌⊎◌, ℕ, List, [], ◌∷◌, ◌++◌, Bool, true, false, ◌==◌, ◌||◌, cond, option_to_list, MatchBool, Result, Ok, Err}
 use Rattle.frame_codec.specs.declared.frame.Frame.{Frame}
 use Rattle.frame_codec.specs.declared.frame.Frame.TheVariants.{Refused}
@@ -30,7 +30,7 @@ course_of x h st (f ∷ fs) =
     cond (is_closed st) (record { history = h; standing = st; replies = [] })
     (with_reply (outcome_of_frame x h st f) (course_of x (outcome_of_frame x h st f).history (outcome_of_frame x h st f).standing fs))
 
--- where the reading stops after frames that leave the session open: a fault is refused, and closes
+-- if the reading stops after frames that leave the session open: a fault is refused, and closes
 -- it
 abbrev pub at_end : Result (Unit {0}) ReadFault → SessionCourse → SessionCourse
 at_end (Ok done) c = c
@@ -58,7 +58,7 @@ pub record ServesWithMemory (x : Setting) (h : History) (old : Session) (piece :
   pub read : serves.answer ≢ Err Memory
   pub frames_are : record { history = h2; standing = serves.middle; replies = serves.reported } ≡ course_of x h old.standing serves.frames
 
--- what a piece does to a session where no memory is refused; a closed session takes bytes without
+-- what a piece does to a session if no memory is refused; a closed session takes bytes without
 -- any
 abbrev pub FeedsWithMemory : Setting → History → Session → List ℕ → History → Session → List Frame → Type 0
 FeedsWithMemory x h old piece h2 new replies =

@@ -33,7 +33,7 @@ PiecesDecide = (x : Setting) (h : History) (old : Session) (piece : List ℕ) (d
     × (is_closed new.standing ≡ false → new.unfinished ≡ rest)
 
 -- The setting, the history, a session and a piece of its stream decide the history after the piece,
--- the session then and the replies, where none of these is refused for lack of memory.
+-- the session then and the replies, if none of these is refused for lack of memory.
 abbrev pub PiecesAgree : Type 0
 PiecesAgree = (x : Setting) (h : History) (old old2 : Session) (piece : List ℕ) (done done2 : Unit {0}) (after after2 : History) (new new2 : Session)
     (replies replies2 : List Frame)
@@ -47,7 +47,7 @@ abbrev pub FirstsArePieces : Type 0
 FirstsArePieces = (x : Setting) (h : History) (old : Session) (piece : List ℕ) (count : ℕ) (h2 : History) (new : Session) (replies : List Frame) →
     FeedsFirst x h old piece (Ok count) h2 new replies → FeedsSession x h old (take count piece) (Ok tt) h2 new replies
 
--- Where memory was refused, what the first frame of a piece leads to is what some bytes of the
+-- If memory was refused, what the first frame of a piece leads to is what some bytes of the
 -- piece lead to as one of their own.
 abbrev pub StopsArePieces : Type 0
 StopsArePieces = (x : Setting) (h : History) (old : Session) (piece : List ℕ) (e : AllocError) (h2 : History) (new : Session) (replies : List Frame) →
@@ -100,7 +100,7 @@ pub record SameFeed (before after before2 after2 : List ℕ) (new new2 : Session
   pub session : new ≡ new2
   pub history : end ≡ end2
 
--- Where memory is refused to none of them, what a feed writes, the session after it and the history
+-- If memory is refused to none of them, what a feed writes, the session after it and the history
 -- after it are decided by the piece, by that session's standing and unfinished bytes before it, by
 -- the history and by the setting, whatever other sessions there are. The session after it is its
 -- standing and all of its unfinished bytes, of a closed session, too.

@@ -48,7 +48,7 @@ most_changes x = min 16777196 (most_old_bytes x.plan)
 unfoldable pub is_reader_key : List ℕ → Bool
 is_reader_key key = pointwise nat_eq key (replicate 32 0)
 
--- a key is the publisher's where its SHA-256 is the setting's
+-- a key is the publisher's if its SHA-256 is the setting's
 unfoldable pub is_publisher_key : Setting → List ℕ → Bool
 is_publisher_key x key = pointwise nat_eq (sha256 key) x.publisher
 
@@ -245,7 +245,7 @@ pub record IsRowBuffers (count dimension : ℕ) (words : Vec ℕ Global) : Type 
 abbrev pub IsFull : Vec ℕ Global → Type 0
 IsFull out = vec_capacity out < vec_len out + 64
 
--- what a frame may lead to: what the checks say, or a refusal for memory where the last of them is
+-- what a frame may lead to: what the checks say, or a refusal for memory if the last of them is
 -- memory
 abbrev pub IsOutcome : Setting → History → Standing → Frame → Outcome → Type 0
 IsOutcome x h st f o = (o ≡ outcome_of_frame x h st f) ⊎ ((takes_memory x h st f ≡ true) × (o ≡ refuses refusal.Memory st h))

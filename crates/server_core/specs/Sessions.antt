@@ -45,11 +45,11 @@ AfterReading (Err BadPayload) middle after more = (after ≡ Closed) × (more �
 AfterReading (Err Memory) middle after more = ⊥
 AfterReading (Err Failed) middle after more = ⊥
 
--- the end of a piece where the frames may have closed the session: then nothing more is said
+-- the end of a piece if the frames may have closed the session: then nothing more is said
 abbrev pub EndsPiece : Result (Unit {0}) ReadFault → Standing → Standing → List Frame → Type 0
 EndsPiece answer middle after more = MatchBool (is_closed middle) ((after ≡ middle) × (more ≡ [])) (AfterReading answer middle after more)
 
--- Where memory was refused: before one of the frames, or after them, where the reading stopped with
+-- If memory was refused: before one of the frames, or after them, if the reading stopped with
 -- a fault.
 abbrev pub IsStop : Result (Unit {0}) ReadFault → List Frame → ℕ → Type 0
 IsStop answer frames count = (count < length frames) ⊎ ((count ≡ length frames) × IsErr answer)

@@ -22,7 +22,7 @@ ghost use Rattle.server_core.specs.Laws.{
 ghost use Rattle.server_core.specs.Courses.{course_of, lacks_memory};
 ghost use Rattle.server_core.specs.Serving.{Setting, ServesAll};
 
-/// Where no frame is refused for lack of memory, the replies, the standing and the history after
+/// If no frame is refused for lack of memory, the replies, the standing and the history after
 /// them are determined by the setting, the history, the standing before and the frames, whatever
 /// other sessions do.
 pub fn frames_decide()
@@ -32,7 +32,7 @@ pub fn frames_decide()
         record { history = h2; standing = st2; replies = replies } ≡ course_of x h st frames }
 {}
 
-/// What a feed leads to is decided by the setting, the history, this session and the piece, where
+/// What a feed leads to is decided by the setting, the history, this session and the piece, if
 /// memory isn't refused: the frames that the session's stream completes are served in order, and
 /// then a fault of the stream is reported. A closed session's bytes matter no more.
 pub fn pieces_decide()
@@ -73,7 +73,7 @@ pub fn replicas_reply_alike()
     pieces_decide();
 }
 
-/// Where memory isn't refused, what a feed writes, and the session's standing and unfinished bytes
+/// If memory isn't refused, what a feed writes, and the session's standing and unfinished bytes
 /// after it, a closed session's, too, are decided by the piece, by that session's standing and
 /// unfinished bytes before it, by the history and by the setting (`same`). Of a piece that was
 /// served to its end either no memory was refused, or a refusal can be named (`either`).

@@ -70,18 +70,18 @@ impl Passes {
         self.is_whole
     }
 
-    /// The answers that are begun are whole.
+    /// Notes that all answers that are begun are whole.
     pub(crate) fn end(&mut self) {
         self.is_whole = true;
     }
 
-    /// The answer of this session is begun, and no other one.
+    /// Notes that the answer of this session is begun, and no other one.
     pub(crate) fn begin(&mut self, id: u64) {
         self.begun = [Some(id), None, None, None];
         self.is_whole = false;
     }
 
-    /// The answer of this session is begun beside the others.
+    /// Notes that the answer of this session is begun beside the others.
     pub(crate) fn add(&mut self, id: u64) {
         for k in 0..TOGETHER {
             if self.begun[k].is_none() {
@@ -91,7 +91,7 @@ impl Passes {
         }
     }
 
-    /// The answer of this session is given, or given up.
+    /// Notes that the answer of this session is given, or given up.
     pub(crate) fn remove(&mut self, id: u64) {
         for k in 0..TOGETHER {
             if self.begun[k] == Some(id) {
@@ -105,24 +105,24 @@ impl Passes {
         self.waiting.len() < MOST_WAITING && self.place_of(id).is_none()
     }
 
-    /// A query waits, unless memory is refused.
+    /// Has a query wait, unless memory is refused.
     pub(crate) fn wait(&mut self, id: u64, words: Vec<u32>) {
         let _ = self.waiting.push(WaitingQuery { id, words });
     }
 
-    /// The query of this session waits no more.
+    /// Has the query of this session wait no more.
     pub(crate) fn forget(&mut self, id: u64) {
         if let Some(k) = self.place_of(id) {
             self.waiting.remove(k);
         }
     }
 
-    /// No query waits any more.
+    /// Forgets all queries that wait.
     pub(crate) fn forget_all(&mut self) {
         self.waiting = Vec::new(self.alloc);
     }
 
-    /// The query that has waited longest, which waits no more.
+    /// Takes the query that has waited longest, if any waits.
     pub(crate) fn next(&mut self) -> Option<WaitingQuery> {
         if self.waiting.is_empty() {
             return None;

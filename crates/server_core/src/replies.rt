@@ -23,7 +23,7 @@ use pir_schemes::{Scheme, answer_count};
 use std::alloc::{AllocError, Global};
 use version_store::{AnswerBuffers, Store};
 
-/// The room that every reply but a hint's part, a delta and an answer fits into.
+/// The room that every reply but HintPart, Delta, Changes and Answer fits into.
 pub const SHORT_REPLY: usize = 64;
 
 // How many bytes the entries of changed records may have, so that their frame has a payload that is
@@ -118,7 +118,7 @@ pub fn part_of_hint<K: Kernel>(store: &Store<K>, scheme: Scheme, part: u32) -> O
     store.hint_words(scheme, part as usize)
 }
 
-/// Adds a part of a scheme's hint. Only where its room is missing, and more is refused, comes an
+/// Adds a part of a scheme's hint. Only if its room is missing, and more is refused, comes an
 /// `Err`, and then nothing was added. The words are encoded where they stand: no copy of them is
 /// made.
 pub fn put_part(
@@ -164,7 +164,7 @@ pub fn most_changes<K: Kernel>(store: &Store<K>) -> usize
     (hint / 2).min(MOST_ENTRIES)
 }
 
-/// Adds the records that changed since a version, as entries. Only where its room is missing, and
+/// Adds the records that changed since a version, as entries. Only if its room is missing, and
 /// more is refused, comes an `Err`, and then nothing was added. The entries are moved into the
 /// reply.
 pub fn put_changes<K: Kernel>(

@@ -72,7 +72,7 @@ fn serve_hello<K: Kernel>(
     standing
 }
 
-/// Gives a part of the hint. Where there is room for the longest part, no memory is asked for, and
+/// Gives a part of the hint. If there is room for the longest part, no memory is asked for, and
 /// none is said to be refused.
 fn serve_hint_ask<K: Kernel>(
     store: &Store<K>,
@@ -335,7 +335,7 @@ fn serve_publish<K: Kernel>(store: &mut Store<K>, standing: Standing, out: &mut 
     }
 }
 
-/// Closes over a frame that no client sends.
+/// Refuses a frame that no client sends, and closes the session.
 fn serve_bad_frame(out: &mut Vec<u8>) -> Standing
     requires { vec_len out.old + 64 ≤ vec_capacity out.old }
     ensures standing { result ≡ Standing.Closed }

@@ -139,7 +139,7 @@ impl<K: Kernel> ServerCore<K> {
         }
     }
 
-    /// How many bytes of an unfinished frame the session of this number keeps, and 0 where there is
+    /// How many bytes of an unfinished frame the session of this number keeps, and 0 if there is
     /// none.
     pub fn unfinished_len(&self, id: u64) -> usize
         ensures { result ≡ unfinished_in (session_of self.now.sessions id) }
@@ -154,7 +154,7 @@ impl<K: Kernel> ServerCore<K> {
     /// that is made unless memory is refused: the session is open and the publisher's, the bytes
     /// that it keeps and then the piece begin with the frame Publish, there is something to
     /// publish, and a number is left for one more version. So feeding the piece publishes nothing
-    /// where this is false. It takes no memory.
+    /// if this is false. It takes no memory.
     pub fn publishes_next(&self, id: u64, piece: &[u8]) -> bool
         ensures { IsTrue result ↔ PublishesNext self.now id piece.now }
     {
@@ -168,8 +168,8 @@ impl<K: Kernel> ServerCore<K> {
     /// answers are concerned. One that is made in steps is begun and made here, one step a call,
     /// and the feed that follows gives it.
     ///
-    /// While this answers false the same piece is to come here again, after the other sessions have
-    /// had their turns. A piece may not be fed
+    /// As long as this returns false the same piece is to come here again, after the other sessions
+    /// have had their turns. A piece may not be fed
     ///
     /// - when its next frame is a query whose answer lacks a step, is not begun while those of
     ///   other sessions are not all given, or would be begun while a publication waits;
@@ -334,8 +334,8 @@ impl<K: Kernel> ServerCore<K> {
         true
     }
 
-    /// Gives up the answer of a session that is closed, and waits no more for such a one's
-    /// publication.
+    /// Gives up the answer of a session that is closed, and forgets that such a
+    /// session waits to publish.
     fn forget_closed(&mut self)
         ensures { self.new ≡ self.old }
     {
@@ -438,7 +438,7 @@ impl<K: Kernel> ServerCore<K> {
         self.store.drop_draft();
     }
 
-    /// Makes the draft the current version and answers its number, as [`Store::publish`] does. No
+    /// Makes the draft the current version and returns its number, as [`Store::publish`] does. No
     /// session changes.
     pub fn publish(&mut self) -> Result<u64, PublishError>
         ensures version { IfOk result (λ v. (v ≡ self.old.store.version + 1) × (v < 2 ^ 64)) }
@@ -495,8 +495,8 @@ impl<K: Kernel> ServerCore<K> {
 
     /// Takes the next piece of a session's stream up to the end of the first frame that is whole
     /// then, adds to `out` the reply to it, and returns how many bytes it took: what
-    /// [`ServerCore::feed`] of just these bytes does. Where no frame is whole it takes all, and
-    /// where a fault stands in the frame's place.
+    /// [`ServerCore::feed`] of just these bytes does. If no frame is whole it takes all, also
+    /// if a fault stands in the frame's place.
     ///
     /// `NoSession` exactly when there is no session of this number: nothing changes. At `Memory`
     /// the session is closed, and nothing was served. A closed session takes all and replies

@@ -123,7 +123,7 @@ impl Session {
     }
 
     /// The words of the next frame of the stream, which a piece completes, if that is a query of so
-    /// many words. There is none where memory is refused, too.
+    /// many words. There is none if memory is refused, too.
     pub fn next_words(&self, wide: bool, piece: &[u8], count: usize) -> Option<Vec<u32>>
         ensures words { IfSome result (λ words. HasWordsNext wide self.now piece.now words.items) }
         ensures count { IfSome result (λ words. length words.items ≡ count) }
@@ -169,8 +169,8 @@ impl Session {
     }
 
     /// Takes the next piece of the stream up to the end of the first frame that is whole then, adds
-    /// the reply to it, and returns how many bytes it took. Where no frame is whole it takes all,
-    /// and where a fault stands in the frame's place. A closed session takes all and adds nothing.
+    /// the reply to it, and returns how many bytes it took. If no frame is whole it takes all,
+    /// also if a fault stands in the frame's place. A closed session takes all and adds nothing.
     /// At an `Err` memory was refused: the session is closed, and nothing was served.
     pub fn feed_frame<K: Kernel>(
         &mut self,

@@ -6,7 +6,7 @@ use Rattle.safe_files.specs.declared.replacing.ReplaceFault.TheVariants as repla
 use Rattle.server_files.specs.declared.reading_in.Unwritten.{Unwritten}
 use Rattle.server_files.specs.declared.reading_in.Unwritten.TheVariants.{Input, File}
 
--- how a replacement ends where nothing was written: an input at fault ends it while the new file is
+-- how a replacement ends if nothing was written: an input at fault ends it while the new file is
 -- written, which is then removed
 abbrev pub EndsReplacement : Unwritten → ReplaceFault → Type 0
 EndsReplacement (Input _) fault = fault ≡ replace.Write

@@ -19,9 +19,9 @@ use std::fs;
 ///
 /// # Errors
 ///
-/// In this order: `File` where there is no file, `Locked` where another process has it, those of
-/// the snapshot, `Write` where the file can't be sent to the device, those of the log (`File`,
-/// `BadLog`), and those of the new files (`File`, `Write`). `Memory` where there was none.
+/// In this order: `File` if there is no file, `Locked` if another process has it, those of
+/// the snapshot, `Write` if the file can't be sent to the device, those of the log (`File`,
+/// `BadLog`), and those of the new files (`File`, `Write`). `Memory` if there was none.
 pub fn compact_file(rt: &HostRuntime, name: &str) -> Result<(), Failed> {
     match compact_pair(rt, name) {
         Ok(Compacted { version, after }) => printed(

@@ -258,7 +258,7 @@ pub fn replace_version<D: Disk, C: Versioned>(
 ///
 /// # Errors
 ///
-/// `Write` where a write failed, `Memory` where memory was refused.
+/// `Write` if a write failed, `Memory` if memory was refused.
 pub fn write_version<W: Write, C: Versioned>(
     alloc: Global,
     writer: &mut W,

@@ -120,7 +120,7 @@ pub const NOT_WRITTEN: Failure = Failure::Fault("Write");
 /// A file that no other process serves or replaces, until the value is dropped. What is no file, as
 /// a terminal, has no lock.
 ///
-/// Where the name given is a link, what it leads to is found once: that is what is locked, read and
+/// If the name given is a link, what it leads to is found once: that is what is locked, read and
 /// replaced.
 #[derive(Drop)]
 pub struct OwnFile<'a, R: FileSystem = HostRuntime> {
@@ -134,7 +134,7 @@ impl<'a, R: FileSystem> OwnFile<'a, R> {
     ///
     /// # Errors
     ///
-    /// `Locked` where another process has it, `File` where its lock can't be taken, `Memory`.
+    /// `Locked` if another process has it, `File` if its lock can't be taken, `Memory`.
     pub fn to_write(rt: &'a R, name: &str) -> Result<OwnFile<'a, R>, Failure> {
         let mut place = Place::of(rt, name)?;
         if place.is_no_file() {
@@ -155,7 +155,7 @@ impl<'a, R: FileSystem> OwnFile<'a, R> {
     ///
     /// # Errors
     ///
-    /// `File` where nothing stands of this name, or no file; then as [`OwnFile::to_write`].
+    /// `File` if nothing stands of this name, or no file; then as [`OwnFile::to_write`].
     pub fn to_read(rt: &'a R, name: &str) -> Result<OwnFile<'a, R>, Failure> {
         match fs::metadata(rt, name) {
             Ok(found) if found.is_file() => OwnFile::to_write(rt, name),
@@ -210,7 +210,7 @@ impl KeptFile {
 ///
 /// # Errors
 ///
-/// In this order: `File`, the refusals of the snapshot, `Write` where the file or its name can't be
+/// In this order: `File`, the refusals of the snapshot, `Write` if the file or its name can't be
 /// sent to the device; `Memory`.
 pub fn kept_file<R: FileSystem>(
     rt: &R,
@@ -249,7 +249,7 @@ pub fn progress_of_file<'a>(rt: &'a HostRuntime, name: &str) -> Option<Progress<
 ///
 /// # Errors
 ///
-/// `BadLog` where one of the publications can't follow; `Memory`.
+/// `BadLog` if one of the publications can't follow; `Memory`.
 pub fn store_after<W: HintWatcher>(
     alloc: Global,
     read: ReadVersion,
@@ -315,7 +315,7 @@ pub fn snapshot_in(rt: &HostRuntime, name: &str) -> Result<(Snapshot, [u8; 32]),
 ///
 /// # Errors
 ///
-/// As [`write_file`], and `File` where that log can't be removed.
+/// As [`write_file`], and `File` if that log can't be removed.
 pub fn write_anew<R: FileSystem, C: Versioned>(
     rt: &R,
     file: &mut OwnFile<'_, R>,
@@ -408,7 +408,7 @@ pub fn digest_of<C: Content>(alloc: Global, content: &C) -> Result<[u8; 32], Fai
 ///
 /// # Errors
 ///
-/// `File` where no file can be made beside it, or can't be given the name; `Write` where it can't
+/// `File` if no file can be made beside it, or can't be given the name; `Write` if it can't
 /// be written or sent to the device; `Memory`. None is left beside it.
 pub fn write_file<R: FileSystem, C: Versioned>(
     rt: &R,

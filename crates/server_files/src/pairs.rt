@@ -46,7 +46,7 @@ pub struct Whole {
 ///
 /// # Errors
 ///
-/// In this order: `File` where there is no file or its log can't be read, the refusals of the
+/// In this order: `File` if there is no file or its log can't be read, the refusals of the
 /// snapshot, `BadLog`; `Memory`.
 pub fn whole_of(rt: &HostRuntime, name: &str) -> Result<Whole, Failure>
     ensures sound { IfOk result (λ it.

@@ -20,7 +20,7 @@ pub struct Pace<'a> {
 }
 
 impl<'a> Pace<'a> {
-    /// Something begins. None where the system has no clock.
+    /// Something begins. None if the system has no clock.
     pub fn new(rt: &'a HostRuntime) -> Option<Pace<'a>> {
         let Ok(began) = Instant::now(rt) else {
             return None;
@@ -67,7 +67,7 @@ impl<'a> Pace<'a> {
     }
 }
 
-/// How much there is to read, where that is known.
+/// How much there is to read, if that is known.
 #[derive(Clone, Copy)]
 pub enum InputSize {
     /// So many bytes.
@@ -88,7 +88,7 @@ pub struct Progress<'a> {
 }
 
 impl<'a> Progress<'a> {
-    /// Of an input of this size nothing has been read. None where the system has no clock.
+    /// Of an input of this size nothing has been read. None if the system has no clock.
     pub fn new(rt: &'a HostRuntime, whole: InputSize) -> Option<Progress<'a>> {
         let Some(pace) = Pace::new(rt) else {
             return None;
@@ -121,7 +121,7 @@ impl<'a> Progress<'a> {
         }
     }
 
-    // How many seconds are left, where that can be known.
+    // How many seconds are left, if that can be known.
     fn left(&self) -> Option<u128> {
         match self.whole {
             InputSize::Bytes(whole) => self.pace.left(self.bytes, whole),
@@ -131,7 +131,7 @@ impl<'a> Progress<'a> {
     }
 }
 
-// How many seconds the rest takes, rounded up, where a part of the whole took so many milliseconds.
+// How many seconds the rest takes, rounded up, if a part of the whole took so many milliseconds.
 fn seconds_left(passed: u64, done: u64, whole: u64) -> u128
     requires { 1 ≤ done }
     ensures { result ≡ seconds_left passed done whole }
@@ -150,7 +150,7 @@ fn progress_line(alloc: Global, bytes: u64, left: Option<u128>) -> Result<String
     }
 }
 
-/// A reader whose reads are counted, and told of where that is wanted.
+/// A reader whose reads are counted, and told of if that is wanted.
 #[derive(Drop)]
 pub struct Watched<'a, R> {
     reader: R,

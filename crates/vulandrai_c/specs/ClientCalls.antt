@@ -41,7 +41,7 @@ pub record TakesPiece (old : ClientSession) (bytes : List ℕ) (new : ClientSess
   pub code_is : code ≡ feed_code answer
   pub did : Feeds old bytes answer new
 
--- the bytes that wait to be sent, none where there is no client
+-- the bytes that wait to be sent, none if there is no client
 abbrev pub waiting_of : Option ClientSession → List ℕ
 waiting_of None = []
 waiting_of (Some s) = s.waiting.items
@@ -61,7 +61,7 @@ TakesEvent old new before after code =
     × (new.waiting ≡ old.waiting))
     ⊎ ((code ≡ 35) × (length before ≢ length (record_of old.events.items)) × (after ≡ before) × (new ≡ old))
 
--- the file of the hint that a client holds, none where there is no client
+-- the file of the hint that a client holds, none if there is no client
 abbrev pub hint_file_in : Option ClientSession → List ℕ
 hint_file_in None = []
 hint_file_in (Some s) = hint_file_of s.core.state
@@ -129,7 +129,7 @@ pub record IsReported (e : Event) (out : ReportedEvent) : Type 0 where
   pub version : out.version ≡ event_version e
   pub record_len : out.record_len ≡ length (event_record e)
 
--- the first of these events as C reads it, with all fields 0 where there is none
+-- the first of these events as C reads it, with all fields 0 if there is none
 abbrev pub Reports : List Event → ReportedEvent → Type 0
 Reports [] out = out ≡ record { kind = 0; detail = 0; index = 0; reserved = 0; version = 0; record_len = 0 }
 Reports (e ∷ es) out = IsReported e out

@@ -8,7 +8,7 @@ use Rattle.std_alloc.specs.Box.Ownership.{box_owns}
 use Rattle.foreign_sessions.specs.declared.client.ClientSession.{ClientSession}
 use Rattle.foreign_sessions.specs.contracts.client.ClientSession.{the_row}
 
--- what a place owns with an allocator: the box of a client, where there is one
+-- what a place owns with an allocator: the box of a client, if there is one
 abbrev pub owned_at : Global → Ptr → Option ClientSession → Fml
 owned_at a p None = ftrue
 owned_at a p (Some s) = box_owns (ghosts.dealloc_token a) the_row p s

@@ -8,12 +8,12 @@ abbrev pub IsThere : {S : Type 0} → Option S → Type 0
 IsThere None = ⊥
 IsThere (Some s) = ⊤
 
--- the mark of a handle: 1 where it holds something, 0 where it is closed
+-- the mark of a handle: 1 if it holds something, 0 if it is closed
 abbrev pub mark : {S : Type 0} → Option S → ℕ
 mark None = 0
 mark (Some s) = 1
 
--- what is in a box, where there is a box
+-- what is in a box, if there is a box
 abbrev pub inside : {S : Type 0} → Option (Box S Global) → Option S
 inside None = None
 inside (Some b) = Some b.value

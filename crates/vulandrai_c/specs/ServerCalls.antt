@@ -35,7 +35,7 @@ pub record OpensSession (old : ServerSession) (id : ℕ) (new : ServerSession) (
   pub code_is : code ≡ opening_code answer
   pub did : session.OpensSession old id answer new
 
--- what closing a session did: the session of this number is gone and no other; the code is 48 where
+-- what closing a session did: the session of this number is gone and no other; the code is 48 if
 -- there was none
 pub record ClosesSession (old : ServerSession) (id : ℕ) (new : ServerSession) (code : ℕ) : Type 0 where
   pub code_is : code ≡ (if is_some (session_of old.core.sessions id) then 0 else 48)
@@ -50,7 +50,7 @@ pub record TakesPiece (old : ServerSession) (id : ℕ) (bytes : List ℕ) (new :
   pub code_is : code ≡ piece_code answer
   pub did : session.Feeds old id bytes answer new
 
--- how many bytes of a piece were taken by an answer, 0 where the piece was refused
+-- how many bytes of a piece were taken by an answer, 0 if the piece was refused
 abbrev pub bytes_taken : Result ℕ PieceFault → ℕ
 bytes_taken (Ok taken) = taken
 bytes_taken (Err fault) = 0
@@ -63,7 +63,7 @@ pub record TakesFrame (old : ServerSession) (id : ℕ) (bytes : List ℕ) (taken
   pub taken_is : taken ≡ bytes_taken answer
   pub did : session.FeedsFirst old id bytes answer new
 
--- the replies that wait to be sent, none where there is no server
+-- the replies that wait to be sent, none if there is no server
 abbrev pub replies_of : Option ServerSession → List ℕ
 replies_of None = []
 replies_of (Some s) = s.replies.items
@@ -93,7 +93,7 @@ pub record Publishes (old : ServerSession) (new : ServerSession) (code : ℕ) : 
   pub code_is : code ≡ publication_code answer
   pub did : session.Publishes old answer new
 
--- the bytes of the snapshot file of a server's current version, none where there is no server
+-- the bytes of the snapshot file of a server's current version, none if there is no server
 abbrev pub snapshot_bytes_of : Option ServerSession → List ℕ
 snapshot_bytes_of None = []
 snapshot_bytes_of (Some s) = snapshot_of s.core.store

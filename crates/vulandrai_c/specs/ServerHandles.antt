@@ -8,7 +8,7 @@ use Rattle.std_alloc.specs.Box.Ownership.{box_owns}
 use Rattle.foreign_sessions.specs.declared.server.ServerSession.{ServerSession}
 use Rattle.foreign_sessions.specs.contracts.server.ServerSession.{the_row}
 
--- what a place owns with an allocator: the box of a server, where there is one
+-- what a place owns with an allocator: the box of a server, if there is one
 abbrev pub owned_at : Global → Ptr → Option ServerSession → Fml
 owned_at a p None = ftrue
 owned_at a p (Some s) = box_owns (ghosts.dealloc_token a) the_row p s

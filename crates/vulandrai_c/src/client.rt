@@ -23,7 +23,7 @@ const NUMBER_LIMIT: u64 = 1 << 62;
 const RECORD_LIMIT: usize = 65_535;
 
 /// Makes a client in a handle, whose secrets and noise come from the seed; what the handle held is
-/// freed. 33 exactly where the first number is above 2^62; else it is made, or 5.
+/// freed. 33 exactly if the first number is above 2^62; else it is made, or 5.
 #[unsafe(no_mangle)]
 pub extern "C" fn vul_client_open(
     client: &mut ClientHandle,
@@ -66,7 +66,7 @@ pub extern "C" fn vul_client_open_wide(
     OK
 }
 
-/// Frees the client of a handle, where there is one.
+/// Frees the client of a handle, if there is one.
 #[unsafe(no_mangle)]
 pub extern "C" fn vul_client_close(client: &mut ClientHandle, alloc: Global)
     ensures { client.new.held.session ≡ None }
@@ -127,7 +127,7 @@ pub extern "C" fn vul_client_ask(client: &mut ClientHandle, alloc: Global, index
     code
 }
 
-/// Gives the server these bytes for a record of the draft. 35 exactly where there are more than
+/// Gives the server these bytes for a record of the draft. 35 exactly if there are more than
 /// 65,535, and then nothing changes; 32, 36, then the client's refusals.
 #[unsafe(no_mangle)]
 pub extern "C" fn vul_client_edit_bytes(
@@ -153,7 +153,7 @@ pub extern "C" fn vul_client_edit_bytes(
     code
 }
 
-/// Gives the server these bytes for a record after those of the draft. 35 exactly where there are
+/// Gives the server these bytes for a record after those of the draft. 35 exactly if there are
 /// more than 65,535, and then nothing changes; 32, 36, then the client's refusals.
 #[unsafe(no_mangle)]
 pub extern "C" fn vul_client_append_bytes(
@@ -210,7 +210,7 @@ pub extern "C" fn vul_client_feed_bytes(
     code
 }
 
-/// How many bytes wait to be sent, 0 where the handle is closed.
+/// How many bytes wait to be sent, 0 if the handle is closed.
 #[unsafe(no_mangle)]
 pub extern "C" fn vul_client_waiting(client: &mut ClientHandle, alloc: Global) -> usize
     ensures kept { client.new.held.session ≡ client.old.held.session }
@@ -224,7 +224,7 @@ pub extern "C" fn vul_client_waiting(client: &mut ClientHandle, alloc: Global) -
     len
 }
 
-/// Copies the bytes that wait to be sent, and forgets them. 32; 35 exactly where `out` has another
+/// Copies the bytes that wait to be sent, and forgets them. 32; 35 exactly if `out` has another
 /// length than they have.
 #[unsafe(no_mangle)]
 pub extern "C" fn vul_client_take_bytes(
@@ -243,7 +243,7 @@ pub extern "C" fn vul_client_take_bytes(
     code
 }
 
-/// The first event that waits, of kind 0 where there is none. 32.
+/// The first event that waits, of kind 0 if there is none. 32.
 #[unsafe(no_mangle)]
 pub extern "C" fn vul_client_event(
     client: &mut ClientHandle,
@@ -261,7 +261,7 @@ pub extern "C" fn vul_client_event(
     OK
 }
 
-/// Copies the record that the first event gives, and forgets the event. 32; 35 exactly where `out`
+/// Copies the record that the first event gives, and forgets the event. 32; 35 exactly if `out`
 /// has another length than the record.
 #[unsafe(no_mangle)]
 pub extern "C" fn vul_client_next_bytes(

@@ -88,7 +88,7 @@ impl ClientHandle {
         }
     }
 
-    /// Its client: `None` where it is closed.
+    /// Its client: `None` if it is closed.
     pub fn into_box(self) -> Option<Box<ClientSession>>
         ensures { inside result ≡ self.held.session }
     {

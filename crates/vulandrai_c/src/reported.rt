@@ -86,7 +86,7 @@ fn event_reported(event: &Event) -> ReportedEvent
     }
 }
 
-/// The first event that waits as C reads it, with all fields 0 where none waits.
+/// The first event that waits as C reads it, with all fields 0 if none waits.
 pub fn first_reported(session: &ClientSession) -> ReportedEvent
     ensures { Reports session.now.events.items result }
 {

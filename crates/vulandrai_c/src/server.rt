@@ -41,7 +41,7 @@ pub extern "C" fn vul_server_open_bytes(
     }
 }
 
-/// Frees the server of a handle, where there is one.
+/// Frees the server of a handle, if there is one.
 #[unsafe(no_mangle)]
 pub extern "C" fn vul_server_close(server: &mut ServerHandle, alloc: Global)
     ensures { server.new.held.session ≡ None }
@@ -49,7 +49,7 @@ pub extern "C" fn vul_server_close(server: &mut ServerHandle, alloc: Global)
     *server = ServerHandle::closed(alloc);
 }
 
-/// Opens a session. 32; 49 exactly where there is one of this number; else it is opened, or 5.
+/// Opens a session. 32; 49 exactly if there is one of this number; else it is opened, or 5.
 #[unsafe(no_mangle)]
 pub extern "C" fn vul_server_session_open(server: &mut ServerHandle, alloc: Global, id: u64) -> u32
     ensures { CallsOn server.old.held.session server.new.held.session result
@@ -63,7 +63,7 @@ pub extern "C" fn vul_server_session_open(server: &mut ServerHandle, alloc: Glob
     code
 }
 
-/// Ends a session. 32; 48 exactly where there is none of this number.
+/// Ends a session. 32; 48 exactly if there is none of this number.
 #[unsafe(no_mangle)]
 pub extern "C" fn vul_server_session_close(server: &mut ServerHandle, alloc: Global, id: u64) -> u32
     ensures { CallsOn server.old.held.session server.new.held.session result
@@ -97,7 +97,7 @@ pub extern "C" fn vul_server_session_is_open(
     OK
 }
 
-/// Takes a piece of a session's stream. 32, 36; 48 exactly where there is no session of this
+/// Takes a piece of a session's stream. 32, 36; 48 exactly if there is no session of this
 /// number; else it is served, or 5.
 #[unsafe(no_mangle)]
 pub extern "C" fn vul_server_feed_bytes(
@@ -142,7 +142,7 @@ pub extern "C" fn vul_server_feed_frame_bytes(
     code
 }
 
-/// How many bytes of replies wait to be sent, 0 where the handle is closed.
+/// How many bytes of replies wait to be sent, 0 if the handle is closed.
 #[unsafe(no_mangle)]
 pub extern "C" fn vul_server_waiting(server: &mut ServerHandle, alloc: Global) -> usize
     ensures kept { server.new.held.session ≡ server.old.held.session }
@@ -156,7 +156,7 @@ pub extern "C" fn vul_server_waiting(server: &mut ServerHandle, alloc: Global) -
     len
 }
 
-/// Copies the replies that wait to be sent, and forgets them. 32; 35 exactly where `out` has
+/// Copies the replies that wait to be sent, and forgets them. 32; 35 exactly if `out` has
 /// another length than they have.
 #[unsafe(no_mangle)]
 pub extern "C" fn vul_server_take_bytes(
@@ -175,8 +175,8 @@ pub extern "C" fn vul_server_take_bytes(
     code
 }
 
-/// Replaces a record of the draft. 32; 50 exactly where there is no such record; else 51 exactly
-/// where the bytes can't be a record; else it is replaced, or 5.
+/// Replaces a record of the draft. 32; 50 exactly if there is no such record; else 51 exactly
+/// if the bytes can't be a record; else it is replaced, or 5.
 #[unsafe(no_mangle)]
 pub extern "C" fn vul_server_edit_bytes(
     server: &mut ServerHandle,
@@ -195,8 +195,8 @@ pub extern "C" fn vul_server_edit_bytes(
     code
 }
 
-/// Puts a record after those of the draft. 32; 51 exactly where the bytes can't be a record; else
-/// 54 exactly where there is no layout of one record more; else it stands there, or 5.
+/// Puts a record after those of the draft. 32; 51 exactly if the bytes can't be a record; else
+/// 54 exactly if there is no layout of one record more; else it stands there, or 5.
 #[unsafe(no_mangle)]
 pub extern "C" fn vul_server_append_bytes(
     server: &mut ServerHandle,
@@ -214,8 +214,8 @@ pub extern "C" fn vul_server_append_bytes(
     code
 }
 
-/// Publishes the draft. 32; 52 exactly where nothing was edited or appended since the last
-/// publication; else 53 exactly where the version is the last that there is; else it is published,
+/// Publishes the draft. 32; 52 exactly if nothing was edited or appended since the last
+/// publication; else 53 exactly if the version is the last that there is; else it is published,
 /// or 5.
 #[unsafe(no_mangle)]
 pub extern "C" fn vul_server_publish(server: &mut ServerHandle, alloc: Global) -> u32
@@ -244,7 +244,7 @@ pub extern "C" fn vul_server_version(server: &mut ServerHandle, alloc: Global, o
     OK
 }
 
-/// How many bytes the snapshot file of the current version has, 0 where the handle is closed.
+/// How many bytes the snapshot file of the current version has, 0 if the handle is closed.
 #[unsafe(no_mangle)]
 pub extern "C" fn vul_server_snapshot_len(server: &mut ServerHandle, alloc: Global) -> usize
     ensures kept { server.new.held.session ≡ server.old.held.session }
@@ -258,7 +258,7 @@ pub extern "C" fn vul_server_snapshot_len(server: &mut ServerHandle, alloc: Glob
     len
 }
 
-/// Copies the snapshot file of the current version. 32; 35 exactly where `out` has another length
+/// Copies the snapshot file of the current version. 32; 35 exactly if `out` has another length
 /// than it has; else it is copied, or 5.
 #[unsafe(no_mangle)]
 pub extern "C" fn vul_server_snapshot_bytes(

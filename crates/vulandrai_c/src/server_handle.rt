@@ -88,7 +88,7 @@ impl ServerHandle {
         }
     }
 
-    /// Its server: `None` where it is closed.
+    /// Its server: `None` if it is closed.
     pub fn into_box(self) -> Option<Box<ServerSession>>
         ensures { inside result ≡ self.held.session }
     {

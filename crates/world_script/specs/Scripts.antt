@@ -71,7 +71,7 @@ header_of_filling f = record {
 abbrev pub plan_of_filling : Filling → Plan
 plan_of_filling f = plan_held (header_of_filling f)
 
--- the bytes that are kept of a record: those that it has in the digits; none where no world has
+-- the bytes that are kept of a record: those that it has in the digits; none if no world has
 -- records so long
 abbrev pub kept_of : Plan → List ℕ → List ℕ
 kept_of p bytes = if nat_le p.record_len 256 then slot p bytes else []
@@ -89,7 +89,7 @@ abbrev pub record_move : Filling → List ℕ → Move
 record_move f bytes =
     if (length f.clients == 0) && fits (plan_of_filling f) bytes then Goes (Filled (with_record f bytes)) [] else Bad
 
--- a client has its place after the records, where there are fewer than 16
+-- a client has its place after the records, if there are fewer than 16
 abbrev pub client_move : Filling → List ℕ → Move
 client_move f seed = if nat_lt 0 f.count && nat_lt (length f.clients) 16 then Goes (Filled (with_client f seed)) [] else Bad
 

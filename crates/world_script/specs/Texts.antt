@@ -17,7 +17,7 @@ unfoldable pub scheme_name : Scheme → List ℕ
 scheme_name Simple = codes "simple"
 scheme_name Double = codes "double"
 
--- a record's bytes in hex, or a dash where there are none
+-- a record's bytes in hex, or a dash if there are none
 unfoldable pub shown_bytes : List ℕ → List ℕ
 shown_bytes bytes = cond (length bytes == 0) (codes "-") (encode_lower bytes)
 
@@ -74,6 +74,6 @@ refused_world_text e = codes "world: refused " ++ (open_fault_name e ++ codes "\
 abbrev pub too_long_text : List ℕ
 too_long_text = codes "script: too long\n"
 
--- the line printed where memory was refused
+-- the line printed if memory was refused
 abbrev pub memory_text : List ℕ
 memory_text = codes "memory\n"

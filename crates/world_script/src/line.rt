@@ -47,7 +47,7 @@ pub enum Line {
     Step(Step),
 }
 
-/// Reads a line. `None` where no line is written so.
+/// Reads a line. `None` if no line is written so.
 pub fn read_line(alloc: Global, text: &[u8]) -> Result<Option<Line>, AllocError>
     ensures { IfOk result (λ found. found ≡ line_of text.now) }
 {

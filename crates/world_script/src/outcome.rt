@@ -98,7 +98,7 @@ fn retrieved_line(
     format!(in alloc; "client {client}: retrieved {index} {version} {shown}\n")
 }
 
-/// A record's bytes in hex, or a dash where there are none.
+/// A record's bytes in hex, or a dash if there are none.
 #[tactic(auto, unfolding(crate::specs::Texts::shown_bytes))]
 pub fn shown_bytes(alloc: Global, bytes: &[u8]) -> Result<String, AllocError>
     ensures { IfOk result (λ text. string_bytes text ≡ shown_bytes bytes.now) }

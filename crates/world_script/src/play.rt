@@ -30,13 +30,13 @@ pub enum RehearseFault {
 
 /// Reads a script, plays it, and prints what comes of it. Returns the exit status.
 ///
-/// The status is 0 where the script was played to its end. It is 3 where the script is too long,
-/// where a line doesn't fit its place, and where the world can't be opened, and 4 where there was
+/// The status is 0 if the script was played to its end. It is 3 if the script is too long,
+/// if a line doesn't fit its place, and if the world can't be opened, and 4 if there was
 /// no memory; the last line printed says so.
 ///
 /// # Errors
 ///
-/// `Read` where a read fails; nothing was printed then. `Write` where a write fails or takes no
+/// `Read` if a read fails; nothing was printed then. `Write` if a write fails or takes no
 /// byte; what was printed then is a part of what the script prints, from its start on.
 pub fn rehearse<R: Read, W: Write>(
     alloc: Global,

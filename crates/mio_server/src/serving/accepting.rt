@@ -80,7 +80,7 @@ impl Service {
         Ok(())
     }
 
-    // The next connection that waits; none where the service stops.
+    // The next connection that waits; none if the service stops.
     fn accept_next(&self) -> io::Result<(TcpStream, SocketAddr)> {
         match &self.listener {
             Some(listener) => listener.accept(),

@@ -69,7 +69,7 @@ impl Service {
         }
     }
 
-    // Microseconds since the start; 0 where the clock can't be read.
+    // Microseconds since the start; 0 if the clock can't be read.
     pub(super) fn micros(&self, rt: &HostRuntime) -> u64 {
         micros_since(rt, Some(self.start))
     }

@@ -78,7 +78,7 @@ impl Service {
         Ok(server)
     }
 
-    // Gives each connection a turn, where one could not be noted.
+    // Gives each connection a turn, if one could not be noted.
     pub(super) fn visit_all<S: Saver + Drop>(
         &mut self,
         rt: &HostRuntime,
@@ -200,7 +200,7 @@ impl Service {
     }
 
     // Puts a connection back into its place after a turn, or closes it. Returns whether there is
-    // more to do at once: where it is closed, whether another may be accepted in its place.
+    // more to do at once: if it is closed, whether another may be accepted in its place.
     pub(super) fn finish_turn<S: Saver>(
         &mut self,
         rt: &HostRuntime,
