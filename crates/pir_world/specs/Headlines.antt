@@ -112,7 +112,12 @@ pub record IsOpening (h : Header) (records : List ℕ) : Type 0 where
   pub sound : IsSound h records
   pub bytes : All (λ b. b < 2 ^ 8) records
 
--- so it is in every run from every snapshot that a store accepts, for all seeds
+-- a run of these steps from a snapshot's opening leads to this state
+pub record IsRunFrom (h : Header) (records : List ℕ) (seeds : List (List ℕ)) (steps : List Step) (s : State) : Type 0 where
+  pub opens : IsOpening h records
+  pub run : Run (setting_in h) (opening h records seeds) steps s
+
+-- `Headline` is so in every run from every snapshot that a store accepts, for all seeds
 abbrev pub EveryRunIsRight : Type 0
 EveryRunIsRight = (h : Header) (records : List ℕ) (seeds : List (List ℕ)) (steps : List Step) (last : State) →
     IsOpening h records → Run (setting_in h) (opening h records seeds) steps last → Headline (setting_in h) seeds last

@@ -15,7 +15,6 @@ use Rattle.pir_world.specs.declared.steps.Step.{Step}
 use Rattle.pir_world.specs.declared.steps.Step.TheVariants.{Ask}
 use Rattle.pir_world.specs.Runs.{State, Link, Entry, Called, Sent, Served, Run, state_after, opening, setting_in}
 use Rattle.pir_world.specs.Headlines.{IsOpening}
-use Rattle.pir_world.specs.Worlds.{Kept}
 
 -- ---- shapes
 
@@ -104,9 +103,9 @@ IndicesChangeNoShape = (h : Header) (records : List ℕ) (seeds : List (List ℕ
     IsPlainRun (setting_in h) (opening h records seeds) steps others last → IsPlainRun (setting_in h) (opening h records seeds) others steps last2 →
     HaveEqualShapes last.log last2.log
 
--- in a world the same shapes went over each link, and the same calls were refused, as in each run
--- from its opening whose steps differ from its own in the indices of asks alone
-abbrev pub HidesIndices : Kept → State → Type 0
-HidesIndices w s = (others : List Step) (last : State) → AreStepsLike w.steps others →
-    AllByRecursion HadMemory s.log → AsksAreWithin (setting_in w.header) (opening w.header w.records w.seeds) w.steps others →
-    IsPlainRun (setting_in w.header) (opening w.header w.records w.seeds) others w.steps last → HaveEqualShapes s.log last.log
+-- Each run from `start` whose steps differ from these in the indices of asks alone puts the same
+-- shapes on each link as the run of these that led to `s`, and refuses the same calls: if in both no
+-- reply is refused for lack of memory, and no ask whose index differs is refused for its index.
+abbrev pub HidesIndices : Setting → State → List Step → State → Type 0
+HidesIndices x start steps s = (others : List Step) (last : State) → AreStepsLike steps others →
+    AllByRecursion HadMemory s.log → AsksAreWithin x start steps others → IsPlainRun x start others steps last → HaveEqualShapes s.log last.log

@@ -6,9 +6,9 @@ ghost use Rattle.snapshot_file.specs.Snapshots.{header_of};
 ghost use Rattle.version_store.specs.Openings.{IsOpenFault};
 ghost use Rattle.server_core.specs.Cores.{session_of};
 ghost use Rattle.server_core.specs.Sessions.{new_session};
-ghost use Rattle.pir_world.specs.Runs.{State, Steps, outcomes_of, setting_in};
+ghost use Rattle.pir_world.specs.Runs.{State, Steps, opening, outcomes_of, setting_in};
 ghost use Rattle.pir_world.specs.Freshness.{IsFreshLog};
-ghost use Rattle.pir_world.specs.Headlines.{Headline};
+ghost use Rattle.pir_world.specs.Headlines.{Headline, IsRunFrom};
 ghost use Rattle.pir_world.specs.Shapes.{HidesIndices};
 ghost use Rattle.pir_world.specs.Sides.{fresh_side, has_client};
 ghost use Rattle.pir_world.specs.Worlds.{IsNew, IsRunOf};
@@ -101,9 +101,9 @@ impl<K: Kernel> World<K> {
     /// What came of the steps so far, in order: the accepted and refused edits, appends and
     /// publications, the events, the refused calls and the faults.
     ///
-    /// The outcomes are those of a run of the steps, also in a world that was refused memory in a later
-    /// step, and all of it is right: an answered retrieval whose noise sums stay below half of
-    /// delta gave exactly its record's bytes in the version that its hint names, and a query was
+    /// The outcomes are those of a run of the steps, also in a world that was refused memory in a
+    /// later step, and all of it is right: an answered retrieval whose noise sums stay below half
+    /// of delta gave exactly its record's bytes in the version that its hint names, and a query was
     /// refused as stale, with the current version, exactly when it named another. The log of the
     /// run says by earlier entries which call, which query and which reply each retrieval had. No
     /// answer is older than a version that had been reported to anybody when its query was served.
@@ -116,9 +116,12 @@ impl<K: Kernel> World<K> {
     /// early: it is refused alike, and sends nothing.
     pub fn outcomes(&self) -> &[Outcome]
         ensures kept { result.now ≡ self.now.outcomes }
-        ensures right { (s : State) × IsRunOf self.now s × (result.now ≡ outcomes_of s.log) ×
+        ensures run { (s : State) × IsRunOf self.now s × (result.now ≡ outcomes_of s.log) }
+        ensures right { (s : State) × IsRunFrom self.now.header self.now.records self.now.seeds
+            self.now.steps s × (result.now ≡ outcomes_of s.log) ×
             Headline (setting_in self.now.header) self.now.seeds s × IsFreshLog s.log ×
-            HidesIndices self.now s }
+            HidesIndices (setting_in self.now.header)
+            (opening self.now.header self.now.records self.now.seeds) self.now.steps s }
     {
         every_run_is_right();
         answers_are_fresh();
