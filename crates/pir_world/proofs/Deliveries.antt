@@ -17,7 +17,7 @@ use Rattle.client_core.specs.declared.state.ClientFault.{ClientFault}
 use Rattle.client_core.specs.declared.state.ClientFault.TheVariants.{Memory}
 use Rattle.client_core.specs.declared.state.Event.{Event}
 use Rattle.client_core.specs.Feeding.{Client, Course, takes_all, FeedsOpen, FeedsFailed, Follows, Gives, ends_with, failing}
-use Rattle.pir_world.specs.Runs.{Link, serves, arrived, beyond, sent, link_reported, turn_of, link_served}
+use Rattle.pir_world.specs.Runs.{Link, serves, arrived, beyond, sent}
 use Rattle.pir_schemes.specs.Laws.{RetrievalGivesTheRecord}
 use Rattle.pir_world.specs.Versions.{seed_of}
 use Rattle.pir_world.specs.Invariants.{GoodHistory, LinkInvariant}
@@ -29,6 +29,7 @@ use Rattle.pir_world.proofs.Bytes.{delivered, memory_alone, prefix_read, carries
 use Rattle.pir_world.proofs.Wires.{Split, IsFew, split_prefix}
 use Rattle.pir_world.proofs.Serves.{served_link}
 use Rattle.pir_world.proofs.Calls.{few_frames, prefix_good}
+use Rattle.pir_world.proofs.Links.{link_reported, turn_of, link_served}
 
 -- ---- the client
 

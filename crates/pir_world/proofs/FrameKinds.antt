@@ -23,7 +23,8 @@ use Rattle.client_core.specs.States.{is_wide_client, delta_base}
 use Rattle.client_core.specs.Calls.{ClientCall, Hello, Sync, Ask, Edit, Append, Publish, call_frame, call_since, state_after_call, sync_begun}
 use Rattle.client_core.specs.Replies.{reaction_to_reply}
 use Rattle.client_core.specs.Feeding.{Course, runs, course_more, takes_all, start, sends_of}
-use Rattle.pir_world.specs.Runs.{Link, Turn, served_or, turn_more, turns, turn_of, arrived}
+use Rattle.pir_world.specs.Runs.{Link, Turn, served_or, turn_more, turns, arrived}
+use Rattle.pir_world.proofs.Links.{turn_of}
 
 -- a frame of a kind that a stream has
 abbrev pub Known : Bool → Frame → Type 0

@@ -24,7 +24,7 @@ use Rattle.client_core.specs.Replies.{event_read, reaction_to_reply}
 use Rattle.pir_world.specs.declared.steps.Step.{Step}
 use Rattle.pir_world.specs.declared.steps.Step.TheVariants.{Edit, Append, Publish, Hello, Sync, Ask, ToServer, ToClient}
 use Rattle.pir_world.specs.declared.steps.Outcome.TheVariants.{Published, Reported}
-use Rattle.pir_world.specs.Runs.{State, Link, Turn, Entry, Called, Sent, Served, Ended, Plain, serves, turn_of, arrived, beyond, reports, reacts, reported_by, state_after, call_at, called_at, served_at, reported_at, edit_after, publish_after, Steps, Run, reader_key, opening, setting_in, append_after}
+use Rattle.pir_world.specs.Runs.{State, Link, Turn, Entry, Called, Sent, Served, Ended, Plain, serves, arrived, beyond, reports, reacts, reported_by, state_after, call_at, called_at, served_at, reported_at, edit_after, publish_after, Steps, Run, reader_key, opening, setting_in, append_after}
 use Rattle.pir_world.specs.Versions.{seed_of}
 use Rattle.pir_world.specs.Headlines.{IsRight, IsRightEvent}
 use Rattle.pir_world.specs.Invariants.{LinkInvariant, EachAfter, WorldInvariant}
@@ -36,6 +36,7 @@ use Rattle.pir_world.proofs.Logs.{each_more, all_with_earlier}
 use Rattle.pir_world.proofs.Keeping.{step_inv, run_inv}
 use Rattle.pir_world.proofs.Opening.{opening_inv}
 use Rattle.digit_pack.specs.Layout.{is_layout}
+use Rattle.pir_world.proofs.Links.{turn_of}
 
 record_up_to : (i v n : ℕ) (given : Option (List ℕ)) → v ≤ n → NamesUpTo n (event_read i v given)
 record_up_to i v n (Some bytes) le = le

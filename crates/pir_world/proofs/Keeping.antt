@@ -15,7 +15,7 @@ use Rattle.pir_world.specs.declared.steps.Step.{Step}
 use Rattle.pir_world.specs.declared.steps.Step.TheVariants.{Edit, Append, Publish, Hello, Sync, Ask, ToServer, ToClient}
 use Rattle.pir_world.specs.declared.steps.Outcome.{Outcome}
 use Rattle.pir_world.specs.declared.steps.Outcome.TheVariants.{Edited, EditRefused, Appended, AppendRefused, Published, PublishRefused}
-use Rattle.pir_world.specs.Runs.{State, Link, Entry, Called, Sent, Plain, state_after, called_at, served_at, reported_at, call_at, with_link, with_history, edit_after, append_after, publish_after, link_called, link_reported, link_served, turn_of, reported_by, arrived, reader_key, FitsStep, Steps, Run}
+use Rattle.pir_world.specs.Runs.{State, Link, Entry, Called, Sent, Plain, state_after, called_at, served_at, reported_at, call_at, with_link, with_history, edit_after, append_after, publish_after, reported_by, arrived, reader_key, FitsStep, Steps, Run}
 use Rattle.pir_world.specs.Earlier.{IsAside, HasEarlier}
 use Rattle.pir_world.specs.Versions.{seed_of}
 use Rattle.pir_world.specs.Headlines.{IsRight, IsRightOutcome}
@@ -25,6 +25,7 @@ use Rattle.pir_world.proofs.Calls.{called_hello, called_sync, called_ask, report
 use Rattle.pir_world.proofs.Logs.{each_more, each_later, log_aside, log_later, served_asides, reported_aside}
 use Rattle.pir_world.proofs.Told.{Logged, logged_hello, logged_sync, logged_ask, logged_served, logged_reported}
 use Rattle.digit_pack.specs.Layout.{is_layout}
+use Rattle.pir_world.proofs.Links.{link_called, link_reported, link_served, turn_of}
 
 module _ (x : Setting) (seeds : List (List ℕ)) (s : State) (inv : WorldInvariant x seeds s) where
   -- a client's link is replaced

@@ -1,6 +1,7 @@
 pub mod Later
 pub mod DeltaRows
 pub mod Wires
+pub mod Links
 pub mod Serves
 pub mod Takes
 pub mod Calls

@@ -26,7 +26,7 @@ use Rattle.client_core.specs.Feeding.{takes_all, events_of, fault_of}
 use Rattle.frame_codec.specs.Frames.{IsFrame, encoding}
 use Rattle.pir_world.specs.declared.steps.Outcome.{Outcome}
 use Rattle.pir_world.specs.declared.steps.Outcome.TheVariants.{Reported, CallRefused}
-use Rattle.pir_world.specs.Runs.{State, Link, Turn, turns, turn_more, sent, with_history, Entry, Called, Sent, Plain, arrived, reported_by, reacts, reports, link_reported, link_served, link_called, turn_of, outcomes_of, outcome_of, called_at, served_at, reported_at}
+use Rattle.pir_world.specs.Runs.{State, Link, Turn, turns, turn_more, sent, with_history, Entry, Called, Sent, Plain, arrived, reported_by, reacts, reports, outcomes_of, outcome_of, called_at, served_at, reported_at}
 use Rattle.pir_schemes.specs.Laws.{RetrievalGivesTheRecord}
 use Rattle.pir_world.specs.Versions.{seed_of}
 use Rattle.pir_world.specs.Invariants.{WorldInvariant, LinkInvariant}
@@ -41,6 +41,7 @@ use Rattle.pir_world.proofs.FrameKinds.{Known, call_known, profile_wide}
 use Rattle.pir_world.proofs.Bytes.{carries_more}
 use Rattle.pir_world.proofs.Calls.{few_frames}
 use Rattle.pir_world.proofs.Deliveries.{reported_end, EndReported, served_end, few_of_split}
+use Rattle.pir_world.proofs.Links.{link_reported, link_served, link_called, turn_of}
 
 -- a client's end has its session and its link
 pub record Met (x : Setting) (core : Core) (k : ℕ) (e : Side) (s : State) : Type 0 where

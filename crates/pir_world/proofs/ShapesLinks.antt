@@ -27,10 +27,6 @@ use Rattle.pir_world.specs.Runs.{
   arrived,
   beyond,
   with_link,
-  link_called,
-  link_served,
-  link_reported,
-  turn_of,
   reports,
   reacts,
   reported_by,
@@ -40,6 +36,7 @@ use Rattle.pir_world.specs.Runs.{
   reported_at,
 }
 use Rattle.pir_world.specs.Shapes.{sent_shapes, reply_shapes, call_refusals, HaveEqualShapes}
+use Rattle.pir_world.proofs.Links.{link_called, link_served, link_reported, turn_of}
 use Rattle.pir_world.proofs.Later.{get_same, get_other}
 use Rattle.pir_world.proofs.Wires.{IsFew, Split, split_few}
 use Rattle.pir_world.proofs.ShapesFrames.{IsFrameLike, same_frame, same_shape, AreFramesLike, IsWireLike, sent_like, arrived_like, beyond_like}

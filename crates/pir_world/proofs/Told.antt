@@ -25,7 +25,7 @@ use Rattle.client_core.specs.Calls.{ClientCall, call_since, sync_begun, state_af
 use Rattle.client_core.specs.Calls.{Hello as hello_call, Sync as sync_call, Ask as ask_call}
 use Rattle.client_core.specs.Replies.{reaction_to_reply}
 use Rattle.client_core.specs.Feeding.{takes_all, sends_of, fault_of}
-use Rattle.pir_world.specs.Runs.{Wire, Link, Retrieval, Entry, Called, Sent, Served, arrived, beyond, sent, serves, served_or, turn_of, link_called, link_served, link_reported, reports, reacts, reported_by, reader_key}
+use Rattle.pir_world.specs.Runs.{Wire, Link, Retrieval, Entry, Called, Sent, Served, arrived, beyond, sent, serves, served_or, reports, reacts, reported_by, reader_key}
 use Rattle.pir_world.specs.Earlier.{IsSentLast, IsServedLast, is_ask, asks_of, hint_after, hint_named, IsAsked, HasEarlier, IsAskForChanges, IsAskForPart}
 use Rattle.pir_world.specs.Versions.{name_of, seed_of}
 use Rattle.pir_world.specs.Invariants.{GoodHistory, IsReply, InFlight, Phase, LinkInvariant, IsFrom, LogInvariant, EachAfter}
@@ -34,6 +34,7 @@ use Rattle.pir_world.proofs.Serves.{ask_words}
 use Rattle.pir_world.proofs.Takes.{ClientInv, IsTaken, IsPartBefore, one_alike, taken}
 use Rattle.pir_world.proofs.Calls.{few_frames, link_begun, base_is}
 use Rattle.pir_world.proofs.Logs.{same_number, hint_more, log_same}
+use Rattle.pir_world.proofs.Links.{turn_of, link_called, link_served, link_reported}
 
 one_more : {X : Type 0} (xs : List X) (x : X) → xs ++ x ∷ [] ≡ [] → ⊥
 one_more [] x e = cc

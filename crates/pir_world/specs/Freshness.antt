@@ -7,7 +7,7 @@ use Rattle.client_core.specs.declared.state.Event.{Event}
 use Rattle.client_core.specs.declared.state.Event.TheVariants.{Welcomed, Synced, Retrieved, Unreadable, Stale, Done, Refused}
 use Rattle.pir_world.specs.declared.steps.Step.{Step}
 use Rattle.pir_world.specs.declared.steps.Outcome.TheVariants.{Published, Reported}
-use Rattle.pir_world.specs.Runs.{State, Link, Entry, Served, Ended, Plain, Run, opening, setting_in, turn_of}
+use Rattle.pir_world.specs.Runs.{State, Link, Entry, Served, Ended, Plain, Run, serves, arrived, opening, setting_in}
 use Rattle.pir_world.specs.Earlier.{AllWithEarlier}
 use Rattle.pir_world.specs.Headlines.{IsOpening}
 
@@ -51,7 +51,7 @@ abbrev pub AnswersAreFresh : Type 0
 AnswersAreFresh = (h : Header) (records : List ℕ) (seeds : List (List ℕ)) (steps : List Step) (s : State) → IsOpening h records →
     Run (setting_in h) (opening h records seeds) steps s →
     (short : Bool) (k most : ℕ) (l : Link) → slice_get s.links k ≡ Some l →
-    AllByRecursion (IsFresh s.history s.log) (turn_of (setting_in h) short k most s.history l).log
+    AllByRecursion (IsFresh s.history s.log) (serves (setting_in h) short k s.history l.standing (arrived l.up most)).log
 
 -- so is the log of every run from every snapshot that a store accepts, for all seeds
 abbrev pub EveryLogIsFresh : Type 0

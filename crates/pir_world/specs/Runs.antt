@@ -155,22 +155,6 @@ pub record Link : Type 0 where
   pub up : Wire
   pub down : Wire
 
--- what a delivery to the server leads to: it serves each frame at the delivery of its last byte
-abbrev pub turn_of : Setting → Bool → ℕ → ℕ → History → Link → Turn
-turn_of x short k most h l = serves x short k h l.standing (arrived l.up most)
-
--- the link after it
-abbrev pub link_served : Setting → Bool → ℕ → ℕ → History → Link → Link
-link_served x short k most h l =
-    let t = turn_of x short k most h l in
-    record { client = l.client; standing = t.standing; up = beyond l.up most; down = sent l.down t.replies }
-
--- the link after a delivery to the client
-abbrev pub link_reported : ℕ → Link → Link
-link_reported most l =
-    let t = takes_all l.client (arrived l.down most) in
-    record { client = t.state; standing = l.standing; up = sent l.up t.sends; down = beyond l.down most }
-
 -- an event ends the outstanding call
 abbrev pub reports : ℕ → Call → Frame → Event → Entry
 reports k (call.Ask i s v n) reply e = Ended k (record { index = i; scheme = s; version = v; number = n }) reply e
@@ -189,12 +173,6 @@ reported_by k c [] = []
 reported_by k c (f ∷ fs) = reacts k c.call f (reaction_to_reply c f).reaction ++ cond (is_some (fault_of (reaction_to_reply c f).reaction)) []
     (reported_by k (reaction_to_reply c f).state fs)
 
--- the link after an accepted call
-abbrev pub link_called : ClientCall → Link → Link
-link_called w l =
-    let c = state_after_call w l.client in
-    record { client = c; standing = l.standing; up = sent l.up (call_frame c c.call ∷ []); down = l.down }
-
 -- ---- runs
 
 -- all versions, the links of the clients in their order, and what was written down
@@ -211,29 +189,36 @@ with_link s h k l es = record { history = h; links = slice_set s.links k l; log 
 abbrev pub with_history : State → History → Outcome → State
 with_history s h o = record { history = h; links = s.links; log = s.log ++ Plain o ∷ [] }
 
--- a call at a link, where this refuses it
+-- a call at a link, which is refused with a fault or not: a refused one is written down and changes
+-- nothing else; another one changes the client, which sends its frame
 abbrev pub call_at : State → ℕ → ClientCall → Link → Option CallFault → State
 call_at s k w l (Some fault) = with_link s s.history k l (Called k w (Some fault) ∷ [])
 call_at s k w l None =
-    let m = link_called w l in
-    with_link s s.history k m (Called k w None ∷ Sent k (call_frame m.client m.client.call) ∷ [])
+    let c = state_after_call w l.client in
+    let f = call_frame c c.call in
+    with_link s s.history k (record l { client = c; up = sent l.up (f ∷ []) }) (Called k w None ∷ Sent k f ∷ [])
 
--- a call at client k; nothing where there is no such client
+-- a call at client k; nothing if there is no such client
 abbrev pub called_at : State → ClientCall → ℕ → Option Link → State
 called_at s w k None = s
 called_at s w k (Some l) = call_at s k w l (refusal w l.client)
 
--- a delivery of client k to the server
+-- a delivery of client k to the server, which serves each frame at the delivery of its last byte;
+-- nothing if there is no such client
 abbrev pub served_at : Setting → Bool → State → ℕ → ℕ → Option Link → State
 served_at x short s k most None = s
 served_at x short s k most (Some l) =
-    let t = turn_of x short k most s.history l in
-    with_link s t.history k (link_served x short k most s.history l) t.log
+    let t = serves x short k s.history l.standing (arrived l.up most) in
+    with_link s t.history k (record l { standing = t.standing; up = beyond l.up most; down = sent l.down t.replies }) t.log
 
--- a delivery to client k
+-- a delivery to client k, which takes each frame at the delivery of its last byte; nothing if there
+-- is no such client
 abbrev pub reported_at : State → ℕ → ℕ → Option Link → State
 reported_at s k most None = s
-reported_at s k most (Some l) = with_link s s.history k (link_reported most l) (reported_by k l.client (arrived l.down most))
+reported_at s k most (Some l) =
+    let fs = arrived l.down most in
+    let t = takes_all l.client fs in
+    with_link s s.history k (record l { client = t.state; up = sent l.up t.sends; down = beyond l.down most }) (reported_by k l.client fs)
 
 -- the key of a reader
 abbrev pub reader_key : List ℕ
