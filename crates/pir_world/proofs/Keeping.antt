@@ -18,7 +18,7 @@ use Rattle.pir_world.specs.declared.steps.Outcome.TheVariants.{Edited, EditRefus
 use Rattle.pir_world.specs.Runs.{State, Link, Entry, Called, Sent, Plain, state_after, called_at, served_at, reported_at, call_at, with_link, with_history, edit_after, append_after, publish_after, reported_by, arrived, reader_key, FitsStep, Steps, Run}
 use Rattle.pir_world.specs.Earlier.{IsAside, HasEarlier}
 use Rattle.pir_world.specs.Versions.{seed_of}
-use Rattle.pir_world.specs.Headlines.{IsRight, IsRightOutcome}
+use Rattle.pir_world.specs.Headlines.{IsRight}
 use Rattle.pir_world.specs.Invariants.{GoodHistory, LinkInvariant, LogInvariant, WorldInvariant}
 use Rattle.pir_world.proofs.Later.{IsLater, later_published, same_history, newest, good_published, good_edited, link_later, entries_later, get_same, get_other, good_appended}
 use Rattle.pir_world.proofs.Calls.{called_hello, called_sync, called_ask, reported_inv, served_inv}
@@ -53,7 +53,7 @@ module _ (x : Setting) (seeds : List (List ℕ)) (s : State) (inv : WorldInvaria
           let g : Some m ≡ Some y = sym (get_same s.links k m l at) ∙ ap (λ (n : ℕ). slice_get (slice_set s.links k m) n) (sym same) ∙ f in
           cc
 
-  at_history : (h : History) (o : Outcome) → GoodHistory x h → IsLater s.history h → IsRightOutcome h o → ((j : ℕ) → IsAside j (Plain o))
+  at_history : (h : History) (o : Outcome) → GoodHistory x h → IsLater s.history h → IsRight x seeds h (Plain o) → ((j : ℕ) → IsAside j (Plain o))
       → HasEarlier x seeds h s.log (Plain o) → WorldInvariant x seeds (with_history s h o)
   at_history h o g later right aside early = record {
     history = g;
@@ -128,7 +128,7 @@ module _ (x : Setting) (seeds : List (List ℕ)) (s : State) (inv : WorldInvaria
       (new_version s.history) (λ j. tt) tt))
       (λ t. at_history s.history (PublishRefused _) inv.history (same_history s.history) tt (λ j. tt) tt)
     where
-      new_version : (h : History) → IsRightOutcome (published h) (Published (current_version h + 1))
+      new_version : (h : History) → IsRight x seeds (published h) (Plain (Published (current_version h + 1)))
       new_version h = let e : current_version (published h) ≡ current_version h + 1 = omega arith in (h.draft, let n = newest (published h) in rw (← e) n)
 
   pub after_inv : RetrievalGivesTheRecord → (short : Bool) (step : Step) → FitsStep step → WorldInvariant x seeds (state_after x short s step)

@@ -22,11 +22,10 @@ use Rattle.client_core.specs.declared.state.Call.{Call}
 use Rattle.client_core.specs.declared.state.Call.TheVariants.{Idle, Hello, Sync, Delta, Changes, Ask, Edit, Append, Publish}
 use Rattle.client_core.specs.declared.state.Event.{Event}
 use Rattle.client_core.specs.declared.state.Event.TheVariants.{Welcomed, Synced, Retrieved, Unreadable, Stale, Done, Refused}
-use Rattle.pir_world.specs.declared.steps.Outcome.{Outcome}
-use Rattle.pir_world.specs.declared.steps.Outcome.TheVariants.{Edited, EditRefused, Appended, AppendRefused, Published, PublishRefused, Reported, CallRefused, Failed}
-use Rattle.pir_world.specs.Runs.{Link, Retrieval, Entry, Called, Sent, Served, Ended, Plain}
+use Rattle.pir_world.specs.declared.steps.Outcome.TheVariants.{Published, Reported, Failed}
+use Rattle.pir_world.specs.Runs.{Link, Retrieval, Entry, Served, Ended, Plain}
 use Rattle.pir_world.specs.Versions.{HasVersion, IsVersion, HintIs, seed_of}
-use Rattle.pir_world.specs.Headlines.{IsRightEnd, IsRightQuery, IsServed, IsRightEvent, IsRightOutcome, IsRight}
+use Rattle.pir_world.specs.Headlines.{IsRightEnd, IsRightQuery, IsRightEvent, IsRight}
 use Rattle.pir_world.specs.Invariants.{AreRecords, GoodHistory, IsKnownOf, KnownIs, CallIs, IsReplyOf, IsReply, InFlight, Phase, LinkInvariant}
 use Rattle.std.proofs.Math.Seq.{get_or-append_seam}
 use Rattle.digit_pack.proofs.Layouts.{layout_means}
@@ -273,32 +272,18 @@ module _ (x : Setting) (h h2 : History) (later : IsLater h h2) where
   event_later (Done v) p = p
   event_later (Refused code) p = tt
 
-  outcome_later : (o : Outcome) → IsRightOutcome h o → IsRightOutcome h2 o
-  outcome_later (Reported k e) p = event_later e p
-  outcome_later (Failed k fault) p = p
-  outcome_later (Edited i) p = tt
-  outcome_later (EditRefused i fault) p = tt
-  outcome_later Appended p = tt
-  outcome_later (AppendRefused fault) p = tt
-  outcome_later (Published v) p = version_later v p
-  outcome_later (PublishRefused fault) p = tt
-  outcome_later (CallRefused k fault) p = tt
-
   query_later : (scheme : Option Scheme) (version now : ℕ) (words : List ℕ) (reply : Option Frame) → IsRightQuery x h scheme version now words reply →
       IsRightQuery x h2 scheme version now words reply
   query_later None version now words reply p = p
   query_later (Some s) version now words reply p = record { records = p.records; version_is = later _ _ p.version_is; stale = p.stale; answered = p.answered }
 
-  served_later : (now : ℕ) (f : Frame) (reply : Option Frame) → IsServed x h now f reply → IsServed x h2 now f reply
-  served_later now (Query scheme version words) reply p = query_later (scheme_of_byte scheme) version now words reply p
-  served_later now _ reply p = tt
-
   entry_later : (seeds : List (List ℕ)) (e : Entry) → IsRight x seeds h e → IsRight x seeds h2 e
-  entry_later seeds (Called k want refusal) p = tt
-  entry_later seeds (Sent k f) p = tt
-  entry_later seeds (Served k f now reply) p = served_later now f reply p
+  entry_later seeds (Served k (Query scheme version words) now reply) p = query_later (scheme_of_byte scheme) version now words reply p
   entry_later seeds (Ended k r reply event) p = end_later (seed_of seeds k) r reply event p
-  entry_later seeds (Plain o) p = outcome_later o p
+  entry_later seeds (Plain (Reported k event)) p = event_later event p
+  entry_later seeds (Plain (Published v)) p = version_later v p
+  entry_later seeds (Plain (Failed k fault)) p = p
+  entry_later seeds _ p = tt
 
   pub entries_later : (seeds : List (List ℕ)) (es : List Entry) → AllByRecursion (IsRight x seeds h) es → AllByRecursion (IsRight x seeds h2) es
   entries_later seeds [] p = tt

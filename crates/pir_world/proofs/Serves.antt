@@ -22,9 +22,9 @@ use Rattle.client_core.specs.declared.state.Call.{Call}
 use Rattle.client_core.specs.declared.state.Hint.{Hint}
 use Rattle.client_core.specs.declared.state.Call.TheVariants.{Idle, Hello, Sync, Delta, Changes, Ask, Edit, Append, Publish}
 use Rattle.client_core.specs.Calls.{call_frame, call_words}
-use Rattle.pir_world.specs.Runs.{Turn, Retrieval, served_or, serves, reader_key}
+use Rattle.pir_world.specs.Runs.{Turn, Retrieval, Served, served_or, serves, reader_key}
 use Rattle.pir_world.specs.Versions.{HasVersion, IsVersion, HintIs, asked_words}
-use Rattle.pir_world.specs.Headlines.{IsRightReply, IsRightQuery, IsServed, IsRight}
+use Rattle.pir_world.specs.Headlines.{IsRightReply, IsRightQuery, IsRight}
 use Rattle.pir_world.specs.Invariants.{GoodHistory, IsKnownOf, KnownIs, SyncIs, AskIs, CallIs, IsReply, InFlight, Phase}
 use Rattle.pir_world.proofs.Later.{newest, one_version, records_at}
 use Rattle.hint_changes.specs.Changes.{changes_between}
@@ -34,6 +34,10 @@ use Rattle.version_store.proofs.ChangesMove.{given, no_more}
 use Rattle.pir_world.proofs.FrameKinds.{profile_wide}
 use Rattle.pir_world.proofs.DeltaRows.{CoversChanges, rows_cover}
 use Rattle.pir_world.proofs.Wires.{Split}
+
+-- a frame was served as is right, whoever sent it
+abbrev pub IsServed : Setting → History → ℕ → Frame → Option Frame → Type 0
+IsServed x h now f reply = (seeds : List (List ℕ)) (k : ℕ) → IsRight x seeds h (Served k f now reply)
 
 -- what serving the outstanding call's frame leads to
 pub record Replied (x : Setting) (h : History) (seed : List ℕ) (st : Standing) (call : Call) (f : Frame) (o : Outcome) : Type 0 where
@@ -63,7 +67,7 @@ welcomed false x h seed st profile asked =
       reader = λ e. refl;
       reply =
           (_, refl, (refl, (current_version h, h.current, newest h, refl)));
-      right = tt;
+      right = λ seeds k. tt;
     })
 welcomed true x h seed st profile asked =
     rw (asked, reader_key_is) (record {
@@ -72,7 +76,7 @@ welcomed true x h seed st profile asked =
       reader = λ e. refl;
       reply =
           (_, refl, (refl, (current_version h, h.current, newest h, refl)));
-      right = tt;
+      right = λ seeds k. tt;
     })
 
 -- a scheme's byte names it
@@ -83,7 +87,8 @@ byte_names Double = refl
 -- a right reply is one to the query that names its scheme
 right_query : (x : Setting) (h : History) (s : Scheme) (v now : ℕ) (words : List ℕ) (reply : Option Frame) → IsRightReply x h s v now words reply →
     IsServed x h now (frame.Query (scheme_byte s) v words) reply
-right_query x h s v now words reply r = let P : Option Scheme → Type 0 = λ o. IsRightQuery x h o v now words reply in subst P (sym (byte_names s)) r
+right_query x h s v now words reply r =
+    λ seeds k. let P : Option Scheme → Type 0 = λ o. IsRightQuery x h o v now words reply in subst P (sym (byte_names s)) r
 
 -- ---- a part of the hint
 
@@ -97,8 +102,8 @@ module _ (x : Setting) (h : History) (seed : List ℕ) (s : Scheme) (v p : ℕ) 
   now false t in_ =
       let e : v ≡ current_version h = eqb-true v (current_version h) t in
       rw (byte_names s, t, in_)
-      (record { history_is = refl; unclosed = refl; reader = λ e. e; reply = (_, refl, inr (inr (h.current, now_is h v e, rw e refl))); right = tt })
-  now true t in_ = rw (byte_names s, t, in_) (record { history_is = refl; unclosed = refl; reader = λ e. e; reply = (_, refl, inl refl); right = tt })
+      (record { history_is = refl; unclosed = refl; reader = λ e. e; reply = (_, refl, inr (inr (h.current, now_is h v e, rw e refl))); right = λ seeds k. tt })
+  now true t in_ = rw (byte_names s, t, in_) (record { history_is = refl; unclosed = refl; reader = λ e. e; reply = (_, refl, inl refl); right = λ seeds k. tt })
 
   old : (short : Bool) → (v == current_version h) ≡ false → v < current_version h →
       Replied x h seed Reader (Sync s v p) (frame.HintAsk (scheme_byte s) v p) (served_or short x h Reader (frame.HintAsk (scheme_byte s) v p))
@@ -108,8 +113,7 @@ module _ (x : Setting) (h : History) (seed : List ℕ) (s : Scheme) (v p : ℕ) 
         unclosed = refl;
         reader = λ e. e;
         reply = (_, refl, inr (inl (current_version h, h.current, newest h, lt, refl)));
-        right =
-            tt;
+        right = λ seeds k. tt;
       })
   old true t lt = rw (byte_names s, t)
       (record {
@@ -117,8 +121,7 @@ module _ (x : Setting) (h : History) (seed : List ℕ) (s : Scheme) (v p : ℕ) 
         unclosed = refl;
         reader = λ e. e;
         reply = (_, refl, inr (inl (current_version h, h.current, newest h, lt, refl)));
-        right =
-            tt;
+        right = λ seeds k. tt;
       })
 
   replied_sync : (short : Bool) (known : Option ServerInfo) (parts : List ℕ) → SyncIs x h s v p known parts →
@@ -139,7 +142,7 @@ module _ (x : Setting) (h : History) (g : GoodHistory x h) (seed : List ℕ) (si
     unclosed = refl;
     reader = λ e. e;
     reply = (_, refl, inr (inl (current_version h, h.current, newest h, refl)));
-    right = tt;
+    right = λ seeds k. tt;
   }
 
   some_rows : (rows : List ℕ) → CoversChanges x.plan before h.current rows → (nat_le (length rows) 1024 ≡ true) ⊎ (nat_le (length rows) 1024 ≡ false)
@@ -164,7 +167,7 @@ module _ (x : Setting) (h : History) (g : GoodHistory x h) (seed : List ℕ) (si
         reply_is = refl;
       })),
     );
-    right = tt;
+    right = λ seeds k. tt;
   })
   some_rows rows n (inr t) = rw t no_rows
 
@@ -177,7 +180,7 @@ module _ (x : Setting) (h : History) (g : GoodHistory x h) (seed : List ℕ) (si
   replied_delta false = asked_rows (delta_rows x.plan h since) refl
   replied_delta true =
       rw (delta_granted x h Reader since (delta_rows x.plan h since))
-      (record { history_is = refl; unclosed = refl; reader = λ e. e; reply = (_, refl, inl refl); right = tt })
+      (record { history_is = refl; unclosed = refl; reader = λ e. e; reply = (_, refl, inl refl); right = λ seeds k. tt })
 
 -- ---- the records that changed
 
@@ -189,7 +192,7 @@ module _ (x : Setting) (h : History) (g : GoodHistory x h) (seed : List ℕ) (si
     unclosed = refl;
     reader = λ e. e;
     reply = (_, refl, inr (inl (current_version h, h.current, newest h, refl)));
-    right = tt;
+    right = λ seeds k. tt;
   }
 
   -- what differs between the two versions
@@ -226,7 +229,7 @@ module _ (x : Setting) (h : History) (g : GoodHistory x h) (seed : List ℕ) (si
         reply_is = ap (λ (bytes : List ℕ). frame.Changes since (current_version h) (length h.current) bytes) (entries_are entries e);
       })),
     );
-    right = tt;
+    right = λ seeds k. tt;
   }
 
   asked_changes : (o : Option (List ℕ)) → changes_since x.plan h since (most_changes x) ≡ o →
@@ -238,7 +241,7 @@ module _ (x : Setting) (h : History) (g : GoodHistory x h) (seed : List ℕ) (si
   replied_changes false = rw wide (asked_changes (changes_since x.plan h since (most_changes x)) refl)
   replied_changes true =
       rw (wide, changes_granted x h Reader since (changes_since x.plan h since (most_changes x)))
-      (record { history_is = refl; unclosed = refl; reader = λ e. e; reply = (_, refl, inl refl); right = tt })
+      (record { history_is = refl; unclosed = refl; reader = λ e. e; reply = (_, refl, inl refl); right = λ seeds k. tt })
 
 -- ---- a query
 
@@ -350,7 +353,7 @@ module _ (x : Setting) (seeds : List (List ℕ)) (k : ℕ) (h : History) (seed :
     unclosed = r.unclosed;
     reader = r.reader;
     phase = flight_phase _ call up _ r.reply.0 u (ap option_to_list r.reply.1) r.reply.2;
-    right = (r.right, tt);
+    right = (r.right seeds k, tt);
   })
 
   served_flight : (short : Bool) (call : Call) (up fs up2 down : List Frame) → Split up fs up2 → is_closed st ≡ false

@@ -16,12 +16,11 @@ use Rattle.version_store.specs.Openings.{IsSound}
 use Rattle.version_store.specs.Histories.{History}
 use Rattle.server_core.specs.Serving.{Setting}
 use Rattle.client_core.specs.declared.state.Event.{Event}
-use Rattle.client_core.specs.declared.state.Event.TheVariants.{Welcomed, Synced, Retrieved, Unreadable, Stale, Done, Refused}
+use Rattle.client_core.specs.declared.state.Event.TheVariants.{Welcomed, Synced, Retrieved, Stale, Refused}
 use Rattle.client_core.specs.Replies.{event_read}
 use Rattle.pir_world.specs.declared.steps.Step.{Step}
-use Rattle.pir_world.specs.declared.steps.Outcome.{Outcome}
 use Rattle.pir_world.specs.declared.steps.Outcome.TheVariants.{Published, Reported, Failed}
-use Rattle.pir_world.specs.Runs.{State, Link, Retrieval, Entry, Called, Sent, Served, Ended, Plain, Run, opening, setting_in}
+use Rattle.pir_world.specs.Runs.{State, Link, Retrieval, Entry, Served, Ended, Plain, Run, opening, setting_in}
 use Rattle.pir_world.specs.Versions.{HasVersion, IsVersion, given_words, record_read, IsQuietOn, seed_of, HintIs, name_of}
 use Rattle.pir_world.specs.Earlier.{AllWithEarlier, HasEarlier, hint_named}
 
@@ -63,41 +62,30 @@ pub record IsRightReply (x : Setting) (h : History) (scheme : Scheme) (version n
       (reply ≡ Some (frame.Answer (scheme_byte scheme) now (answer_words scheme x.plan records words)))
       ⊎ (reply ≡ Some (refused refusal.Memory))
 
--- no client sends a query of another scheme
+-- a query was served rightly, in the scheme that its byte names; no client sends a byte that names
+-- none
 abbrev pub IsRightQuery : Setting → History → Option Scheme → ℕ → ℕ → List ℕ → Option Frame → Type 0
 IsRightQuery x h None version now words reply = ⊥
 IsRightQuery x h (Some scheme) version now words reply = IsRightReply x h scheme version now words reply
 
--- how a frame was served, where it is a query
-abbrev pub IsServed : Setting → History → ℕ → Frame → Option Frame → Type 0
-IsServed x h now (frame.Query scheme version words) reply =
-    IsRightQuery x h (scheme_of_byte scheme) version now words reply
-IsServed x h now f reply = Unit {0}
-
--- an event of another call names a version that there is, and no retrieval ends so
+-- An event that ended no retrieval is right: a Welcomed, a Synced or a Stale names a version that
+-- there is, a Refused may come of any call, and there is no other event.
 abbrev pub IsRightEvent : History → Event → Type 0
 IsRightEvent h (Welcomed v) = IsVersion h v
 IsRightEvent h (Synced scheme v) = IsVersion h v
 IsRightEvent h (Stale v) = IsVersion h v
 IsRightEvent h (Refused code) = Unit {0}
-IsRightEvent h (Retrieved i v bytes) = ⊥
-IsRightEvent h (Unreadable i v) = ⊥
-IsRightEvent h (Done v) = ⊥
+IsRightEvent h _ = ⊥
 
--- no client fails
-abbrev pub IsRightOutcome : History → Outcome → Type 0
-IsRightOutcome h (Reported k e) = IsRightEvent h e
-IsRightOutcome h (Failed k fault) = ⊥
-IsRightOutcome h (Published v) = IsVersion h v
-IsRightOutcome h _ = Unit {0}
-
--- what is right of an entry by itself
+-- An entry is right by itself: a query was served rightly and a retrieval ended rightly, any other
+-- event is right, a version published is one that there is, and no client fails.
 abbrev pub IsRight : Setting → List (List ℕ) → History → Entry → Type 0
-IsRight x seeds h (Called k want refusal) = Unit {0}
-IsRight x seeds h (Sent k f) = Unit {0}
-IsRight x seeds h (Served k f now reply) = IsServed x h now f reply
+IsRight x seeds h (Served k (frame.Query scheme version words) now reply) = IsRightQuery x h (scheme_of_byte scheme) version now words reply
 IsRight x seeds h (Ended k r reply event) = IsRightEnd x h (seed_of seeds k) r reply event
-IsRight x seeds h (Plain o) = IsRightOutcome h o
+IsRight x seeds h (Plain (Reported k event)) = IsRightEvent h event
+IsRight x seeds h (Plain (Published v)) = IsVersion h v
+IsRight x seeds h (Plain (Failed k fault)) = ⊥
+IsRight x seeds h _ = Unit {0}
 
 -- In a run from an opening: all that was written down is right, by itself and by what came before
 -- it. Every hint is right, and it is the one that the log names.
