@@ -2,6 +2,7 @@
 -- them.
 use Rattle.std.proofs.Common.{◌≡◌, ℕ, List, [], ◌∷◌, Bool, true, false, cond, Option, Some, None, refl, sym, ap, subst, ◌∙◌, inl, inr}
 use Rattle.std.specs.Prelude.{map, slice_get, slice_set, is_some}
+use Rattle.std.specs.List.{flat_map}
 use Rattle.std.proofs.lemmas.Bool.{cases_eq}
 use Rattle.frame_codec.specs.declared.frame.Frame.{Frame}
 use Rattle.version_store.specs.Histories.{History}
@@ -35,7 +36,7 @@ use Rattle.pir_world.specs.Runs.{
   served_at,
   reported_at,
 }
-use Rattle.pir_world.specs.Shapes.{sent_shapes, reply_shapes, call_refusals, HaveEqualShapes}
+use Rattle.pir_world.specs.Shapes.{sent_shape, reply_shape, call_refusal, HaveEqualShapes}
 use Rattle.pir_world.proofs.Links.{link_called, link_served, link_reported, turn_of}
 use Rattle.pir_world.proofs.Later.{get_same, get_other}
 use Rattle.pir_world.proofs.Wires.{IsFew, Split, split_few}
@@ -92,36 +93,36 @@ state_itself s = record { history = refl; links = λ k. both_itself (slice_get s
 called_equal : (k : ℕ) (v w : ClientCall) (f g : Frame) → IsFrameLike f g → HaveEqualShapes (Called k v None ∷ Sent k f ∷ []) (Called k w None ∷ Sent k g ∷ [])
 called_equal k v w f g e = record { sent = λ j. rw (same_shape f g e) refl; replies = λ j. refl; refusals = λ j. refl }
 
-reports_sent : (j k : ℕ) (q : Call) (f : Frame) (e : Event) → sent_shapes j (reports k q f e ∷ []) ≡ []
+reports_sent : (j k : ℕ) (q : Call) (f : Frame) (e : Event) → flat_map (sent_shape j) (reports k q f e ∷ []) ≡ []
 reports_sent j k (Ask i s v n) f e = refl
 reports_sent j k q f e = refl
 
-reports_replied : (j k : ℕ) (q : Call) (f : Frame) (e : Event) → reply_shapes j (reports k q f e ∷ []) ≡ []
+reports_replied : (j k : ℕ) (q : Call) (f : Frame) (e : Event) → flat_map (reply_shape j) (reports k q f e ∷ []) ≡ []
 reports_replied j k (Ask i s v n) f e = refl
 reports_replied j k q f e = refl
 
-reacts_sent : (j k : ℕ) (q : Call) (f : Frame) (r : Reaction) → sent_shapes j (reacts k q f r) ≡ sent_shapes j (map (λ (y : Frame). Sent k y) (sends_of r))
+reacts_sent : (j k : ℕ) (q : Call) (f : Frame) (r : Reaction) → flat_map (sent_shape j) (reacts k q f r) ≡ flat_map (sent_shape j) (map (λ (y : Frame). Sent k y) (sends_of r))
 reacts_sent j k q f (Asks s v p) = refl
 reacts_sent j k q f (Reports e) = reports_sent j k q f e
 reacts_sent j k q f (Fails fault) = refl
 
-reacts_replied : (j k : ℕ) (q : Call) (f : Frame) (r : Reaction) → reply_shapes j (reacts k q f r) ≡ []
+reacts_replied : (j k : ℕ) (q : Call) (f : Frame) (r : Reaction) → flat_map (reply_shape j) (reacts k q f r) ≡ []
 reacts_replied j k q f (Asks s v p) = refl
 reacts_replied j k q f (Reports e) = reports_replied j k q f e
 reacts_replied j k q f (Fails fault) = refl
 
-reports_no_refusal : (j k : ℕ) (q : Call) (f : Frame) (e : Event) → call_refusals j (reports k q f e ∷ []) ≡ []
+reports_no_refusal : (j k : ℕ) (q : Call) (f : Frame) (e : Event) → flat_map (call_refusal j) (reports k q f e ∷ []) ≡ []
 reports_no_refusal j k (Ask i s v n) f e = refl
 reports_no_refusal j k q f e = refl
 
-reacts_no_refusal : (j k : ℕ) (q : Call) (f : Frame) (r : Reaction) → call_refusals j (reacts k q f r) ≡ []
+reacts_no_refusal : (j k : ℕ) (q : Call) (f : Frame) (r : Reaction) → flat_map (call_refusal j) (reacts k q f r) ≡ []
 reacts_no_refusal j k q f (Asks s v p) = refl
 reacts_no_refusal j k q f (Reports e) = reports_no_refusal j k q f e
 reacts_no_refusal j k q f (Fails fault) = refl
 
 reacts_equal : (k : ℕ) (q q2 : Call) (f g : Frame) (r r2 : Reaction) → sends_of r ≡ sends_of r2 → HaveEqualShapes (reacts k q f r) (reacts k q2 g r2)
 reacts_equal k q q2 f g r r2 e = record {
-  sent = λ j. reacts_sent j k q f r ∙ ap (λ (fs : List Frame). sent_shapes j (map (λ (y : Frame). Sent k y) fs)) e ∙ sym (reacts_sent j k q2 g r2);
+  sent = λ j. reacts_sent j k q f r ∙ ap (λ (fs : List Frame). flat_map (sent_shape j) (map (λ (y : Frame). Sent k y) fs)) e ∙ sym (reacts_sent j k q2 g r2);
   replies = λ j. reacts_replied j k q f r ∙ sym (reacts_replied j k q2 g r2);
   refusals = λ j. reacts_no_refusal j k q f r ∙ sym (reacts_no_refusal j k q2 g r2);
 }

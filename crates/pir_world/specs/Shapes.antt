@@ -18,39 +18,28 @@ use Rattle.pir_world.specs.Headlines.{IsOpening}
 
 -- ---- shapes
 
--- the shape of an entry's frame, where client k sent it
+-- the shape of an entry's frame, if client k sent it
 abbrev pub sent_shape : ℕ → Entry → List FrameShape
 sent_shape k (Sent j f) = cond (j == k) (shape_of_frame f ∷ []) []
 sent_shape k _ = []
 
--- the shape of an entry's reply, where it was to client k
+-- the shape of an entry's reply, if it was to client k
 abbrev pub reply_shape : ℕ → Entry → List FrameShape
 reply_shape k (Served j f now (Some reply)) = cond (j == k) (shape_of_frame reply ∷ []) []
 reply_shape k _ = []
 
--- the shapes of the frames that client k sent, in order
-abbrev pub sent_shapes : ℕ → List Entry → List FrameShape
-sent_shapes k log = flat_map (sent_shape k) log
-
--- the shapes of the replies to client k, in order
-abbrev pub reply_shapes : ℕ → List Entry → List FrameShape
-reply_shapes k log = flat_map (reply_shape k) log
-
--- why an entry's call was refused, where client k made it
+-- why an entry's call was refused, if client k made it
 abbrev pub call_refusal : ℕ → Entry → List CallFault
 call_refusal k (Called j want (Some fault)) = cond (j == k) (fault ∷ []) []
 call_refusal k _ = []
 
--- why calls of client k were refused, in order
-abbrev pub call_refusals : ℕ → List Entry → List CallFault
-call_refusals k log = flat_map (call_refusal k) log
-
--- Two logs say that over each link the same shapes went, each way in the same order, and that the
--- same calls were refused: as many, for the same causes in the same order.
+-- Two logs say that over each link the same shapes went, in the frames that client k sent and in the
+-- replies to it, each way in the same order, and that the same calls were refused: as many, for the
+-- same causes in the same order.
 pub record HaveEqualShapes (log other : List Entry) : Type 0 where
-  pub sent : (k : ℕ) → sent_shapes k log ≡ sent_shapes k other
-  pub replies : (k : ℕ) → reply_shapes k log ≡ reply_shapes k other
-  pub refusals : (k : ℕ) → call_refusals k log ≡ call_refusals k other
+  pub sent : (k : ℕ) → flat_map (sent_shape k) log ≡ flat_map (sent_shape k) other
+  pub replies : (k : ℕ) → flat_map (reply_shape k) log ≡ flat_map (reply_shape k) other
+  pub refusals : (k : ℕ) → flat_map (call_refusal k) log ≡ flat_map (call_refusal k) other
 
 -- ---- steps that differ in indices alone
 
