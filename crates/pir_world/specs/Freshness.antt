@@ -21,39 +21,40 @@ NamesUpTo n (Stale v) = v ≤ n
 NamesUpTo n (Done v) = v ≤ n
 NamesUpTo n (Refused code) = Unit {0}
 
--- nor does any outcome, nor what ended a retrieval
+-- an entry reports no version above this one: neither as an outcome nor by what ended a retrieval
 abbrev pub ReportedUpTo : ℕ → Entry → Type 0
 ReportedUpTo n (Ended k r reply event) = NamesUpTo n event
 ReportedUpTo n (Plain (Reported k event)) = NamesUpTo n event
 ReportedUpTo n (Plain (Published v)) = v ≤ n
 ReportedUpTo n _ = Unit {0}
 
--- a frame was served while version `now` was current, and no later one had been reported to anybody
--- before
+-- a frame was served while version `now` was current, and no later version had been reported to
+-- anybody before
 abbrev pub IsServedFresh : List Entry → Entry → Type 0
 IsServedFresh before (Served k f now reply) = AllByRecursion (ReportedUpTo now) before
 IsServedFresh before _ = Unit {0}
 
--- each frame of a log that was served was served so
+-- each frame was served while a version was current that is no older than any that had been
+-- reported before
 abbrev pub IsFreshLog : List Entry → Type 0
 IsFreshLog log = AllWithEarlier IsServedFresh log
 
--- a frame is served while the version that is current then is `now`, and no later one was reported
--- before
+-- a frame is served while `now` is the current version of a history, and no later version had been
+-- reported to anybody before
 abbrev pub IsFresh : History → List Entry → Entry → Type 0
 IsFresh h before (Served k f now reply) = (now ≡ current_version h) × AllByRecursion (ReportedUpTo now) before
 IsFresh h before _ = Unit {0}
 
--- So it is at every delivery to the server in every run. An answer is of the version that is
--- current when its query is served, so it is never older than a version that had been reported to
--- anybody before.
+-- Every delivery to the server in every run serves frames as `IsFresh` says. An answer is of the
+-- version that is current when its query is served, so it is never older than a version that had
+-- been reported to anybody before.
 abbrev pub AnswersAreFresh : Type 0
 AnswersAreFresh = (h : Header) (records : List ℕ) (seeds : List (List ℕ)) (steps : List Step) (s : State) → IsOpening h records →
     Run (setting_in h) (opening h records seeds) steps s →
     (short : Bool) (k most : ℕ) (l : Link) → slice_get s.links k ≡ Some l →
     AllByRecursion (IsFresh s.history s.log) (serves (setting_in h) short k s.history l.standing (arrived l.up most)).log
 
--- so is the log of every run from every snapshot that a store accepts, for all seeds
+-- the log of every run from every snapshot that a store accepts is fresh, for all seeds
 abbrev pub EveryLogIsFresh : Type 0
 EveryLogIsFresh = (h : Header) (records : List ℕ) (seeds : List (List ℕ)) (steps : List Step) (s : State) → IsOpening h records →
     Run (setting_in h) (opening h records seeds) steps s → IsFreshLog s.log

@@ -24,9 +24,9 @@ use Rattle.pir_world.specs.Runs.{State, Link, Retrieval, Entry, Served, Ended, P
 use Rattle.pir_world.specs.Versions.{HasVersion, IsVersion, given_words, record_read, IsQuietOn, seed_of, HintIs, name_of}
 use Rattle.pir_world.specs.Earlier.{AllWithEarlier, HasEarlier, hint_named}
 
--- An answered retrieval: the answer is that of the version named, and the event is what it says.
--- Where the retrieval is quiet, and on a certain shape always, that is the record's bytes in this
--- version.
+-- An answered retrieval: the answer is that of the version named, and the event is what the answer
+-- says. If the retrieval's noise sums stay below half of delta, and on a certain shape always, that
+-- is the record's bytes in this version.
 pub record IsAnswered (x : Setting) (h : History) (seed : List ℕ) (r : Retrieval) (reply : Frame) (event : Event) : Type 0 where
   pub records : List (List ℕ)
   pub version_is : HasVersion h r.version records
@@ -87,8 +87,9 @@ IsRight x seeds h (Plain (Published v)) = IsVersion h v
 IsRight x seeds h (Plain (Failed k fault)) = ⊥
 IsRight x seeds h _ = Unit {0}
 
--- In a run from an opening: all that was written down is right, by itself and by what came before
--- it. Every hint is right, and it is the one that the log names.
+-- All that was written down of a run is right, by itself (`IsRight`) and by what was written down
+-- before it (`HasEarlier`). Every hint that a client holds is right, and is the one that the log
+-- names.
 pub record Headline (x : Setting) (seeds : List (List ℕ)) (s : State) : Type 0 where
   pub entries : AllByRecursion (IsRight x seeds s.history) s.log
   pub earlier : AllWithEarlier (HasEarlier x seeds s.history) s.log
@@ -100,12 +101,13 @@ pub record IsOpening (h : Header) (records : List ℕ) : Type 0 where
   pub sound : IsSound h records
   pub bytes : All (λ b. b < 2 ^ 8) records
 
--- a run of these steps from a snapshot's opening leads to this state
+-- a run of these steps leads to this state from the opening of a snapshot, which a store accepts,
+-- with a client for each seed
 pub record IsRunFrom (h : Header) (records : List ℕ) (seeds : List (List ℕ)) (steps : List Step) (s : State) : Type 0 where
   pub opens : IsOpening h records
   pub run : Run (setting_in h) (opening h records seeds) steps s
 
--- `Headline` is so in every run from every snapshot that a store accepts, for all seeds
+-- what `Headline` says is so in every run from every snapshot that a store accepts, for all seeds
 abbrev pub EveryRunIsRight : Type 0
 EveryRunIsRight = (h : Header) (records : List ℕ) (seeds : List (List ℕ)) (steps : List Step) (last : State) →
     IsOpening h records → Run (setting_in h) (opening h records seeds) steps last → Headline (setting_in h) seeds last

@@ -57,7 +57,7 @@ abbrev pub whole : List Frame → ℕ → List Frame
 whole [] n = []
 whole (f ∷ fs) n = if nat_le (length (encoding f)) n then f ∷ whole fs (n - length (encoding f)) else []
 
--- what is on its way after them
+-- what is still on its way after the first n bytes
 abbrev pub unread : List Frame → ℕ → Wire
 unread [] n = silent
 unread (f ∷ fs) n = if nat_le (length (encoding f)) n then unread fs (n - length (encoding f)) else record { frames = f ∷ fs; got = n }
@@ -66,11 +66,11 @@ unread (f ∷ fs) n = if nat_le (length (encoding f)) n then unread fs (n - leng
 abbrev pub reach : Wire → ℕ → ℕ
 reach w most = w.got + min most (length (flat_map encoding w.frames) - w.got)
 
--- the frames whose last byte it hands over
+-- the frames whose last byte a delivery hands over
 abbrev pub arrived : Wire → ℕ → List Frame
 arrived w most = whole w.frames (reach w most)
 
--- what stays on its way
+-- what a delivery leaves on its way
 abbrev pub beyond : Wire → ℕ → Wire
 beyond w most = unread w.frames (reach w most)
 
@@ -93,7 +93,7 @@ pub data Entry : Type 0 where
   Ended : (client : ℕ) (retrieval : Retrieval) (reply : Frame) (event : Event) → Entry
   Plain : (outcome : Outcome) → Entry
 
--- what is reported of it to the publisher and the clients
+-- what is reported of an entry to the publisher and the clients
 abbrev pub outcome_of : Entry → List Outcome
 outcome_of (Called k want None) = []
 outcome_of (Called k want (Some fault)) = CallRefused k fault ∷ []
@@ -108,8 +108,8 @@ outcomes_of log = flat_map outcome_of log
 
 -- ---- the server's side of a link
 
--- what a frame leads to; short says that the server is out of memory where the checks end with
--- memory
+-- What a frame leads to. If `short` is true, the server is out of memory: a frame that it needs
+-- memory for, and that no other check refuses, is then refused for that.
 abbrev pub served_or : Bool → Setting → History → Standing → Frame → Reply
 served_or false x h st f = outcome_of_frame x h st f
 served_or true x h st f = if takes_memory x h st f then refuses refusal.Memory st h else outcome_of_frame x h st f
@@ -278,10 +278,10 @@ Run x s (step ∷ steps) t = (mid : State) × Steps x s step mid × Run x mid st
 abbrev pub fresh_link : Bool → List ℕ → Link
 fresh_link wide seed = record { client = fresh_in (client_profile wide) seed 0; standing = Stranger; up = silent; down = silent }
 
--- what a snapshot fixes for every version
+-- what a snapshot fixes for every version: the plan and the SHA-256 of the publisher's key
 abbrev pub setting_in : Header → Setting
 setting_in h = record { plan = plan_held h; publisher = h.publisher }
 
--- one version of some records, with a client for each seed
+-- the state that a run begins in: one version, of a snapshot's records, and a client for each seed
 abbrev pub opening : Header → List ℕ → List (List ℕ) → State
 opening h records seeds = record { history = opened h.version (records_held (plan_held h) h.count records); links = map (fresh_link (is_wide h.form)) seeds; log = [] }

@@ -33,9 +33,9 @@ abbrev pub call_refusal : ℕ → Entry → List CallFault
 call_refusal k (Called j want (Some fault)) = cond (j == k) (fault ∷ []) []
 call_refusal k _ = []
 
--- Two logs say that over each link the same shapes went, in the frames that client k sent and in the
--- replies to it, each way in the same order, and that the same calls were refused: as many, for the
--- same causes in the same order.
+-- Two logs say that over each link the same shapes went, in the frames that client k sent and in
+-- the replies to it, each way in the same order, and that the same calls were refused: as many, for
+-- the same causes in the same order.
 pub record HaveEqualShapes (log other : List Entry) : Type 0 where
   pub sent : (k : ℕ) → flat_map (sent_shape k) log ≡ flat_map (sent_shape k) other
   pub replies : (k : ℕ) → flat_map (reply_shape k) log ≡ flat_map (reply_shape k) other
@@ -93,8 +93,8 @@ IndicesChangeNoShape = (h : Header) (records : List ℕ) (seeds : List (List ℕ
     HaveEqualShapes last.log last2.log
 
 -- Each run from `start` whose steps differ from these in the indices of asks alone puts the same
--- shapes on each link as the run of these that led to `s`, and refuses the same calls: if in both no
--- reply is refused for lack of memory, and no ask whose index differs is refused for its index.
+-- shapes on each link as the run of these that led to `s`, and refuses the same calls, if in both
+-- no reply is refused for lack of memory, and no ask whose index differs is refused for its index.
 abbrev pub HidesIndices : Setting → State → List Step → State → Type 0
 HidesIndices x start steps s = (others : List Step) (last : State) → AreStepsLike steps others →
     AllByRecursion HadMemory s.log → AsksAreWithin x start steps others → IsPlainRun x start others steps last → HaveEqualShapes s.log last.log

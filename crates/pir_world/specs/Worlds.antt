@@ -20,8 +20,8 @@ pub record Kept : Type 0 where
   pub outcomes : List Outcome
   pub broken : Bool
 
--- a run of its steps from its opening leads to this state, whose outcomes it has; until memory was
--- refused in a step, its parts are the state's
+-- a run of a world's steps from its opening leads to this state, whose outcomes the world has;
+-- until memory was refused in a step, its parts are the state's
 pub record IsRunOf (w : Kept) (s : State) : Type 0 where
   pub opens : IsOpening w.header w.records
   pub run : Run (setting_in w.header) (opening w.header w.records w.seeds) w.steps s
