@@ -95,12 +95,10 @@ pub data Entry : Type 0 where
 
 -- what is reported of an entry to the publisher and the clients
 abbrev pub outcome_of : Entry → List Outcome
-outcome_of (Called k want None) = []
 outcome_of (Called k want (Some fault)) = CallRefused k fault ∷ []
-outcome_of (Sent k f) = []
-outcome_of (Served k f now reply) = []
 outcome_of (Ended k r reply event) = Reported k event ∷ []
 outcome_of (Plain o) = o ∷ []
+outcome_of _ = []
 
 -- the outcomes of a log, in order
 abbrev pub outcomes_of : List Entry → List Outcome
