@@ -136,13 +136,26 @@ fn begin(
     ensures number { IfOk result (λ begun. begun.service.next_id ≡ 0) }
     ensures serving { IfOk result (λ begun. begun.service.phase ≡ Phase.Serving) }
 {
-    let mut service = open_service(rt, address, limits)?;
     let events = match Events::with_capacity(rt.alloc(), EVENTS) {
         Ok(events) => events,
         Err(_) => return Err(RunFault::Memory),
     };
-    let status = listen_for_status(rt, &service.poll, status)?;
-    let address = print_addresses(rt, &service, &status)?;
+    let mut service = open_service(rt, address, limits)?;
+    let status = match listen_for_status(rt, &service.poll, status) {
+        Ok(status) => status,
+        Err(fault) => {
+            // By a call: the prover would else take apart here all that a service owns.
+            drop(service);
+            return Err(fault);
+        }
+    };
+    let address = match print_addresses(rt, &service, &status) {
+        Ok(address) => address,
+        Err(fault) => {
+            drop(service);
+            return Err(fault);
+        }
+    };
     service
         .log
         .note(rt, &service_entry(Event::Listening, Some(address)));
@@ -214,16 +227,17 @@ fn open_service(rt: &HostRuntime, address: SocketAddr, limits: Limits) -> Result
     ensures number { IfOk result (λ service. service.next_id ≡ 0) }
     ensures serving { IfOk result (λ service. service.phase ≡ Phase.Serving) }
 {
-    let places = match ConnectionTable::new(rt.alloc(), limits.most, limits.memory) {
-        Ok(places) => places,
-        Err(_) => return Err(RunFault::Memory),
-    };
     let Ok(buffer) = Vec::from_elem(rt.alloc(), 0u8, PIECE_LEN) else {
         return Err(RunFault::Memory);
     };
-    let (poll, listener) = listen(rt, address, limits.grace.is_some())?;
     let Ok(start) = Instant::now(rt) else {
         return Err(RunFault::Connect);
+    };
+    let (poll, listener) = listen(rt, address, limits.grace.is_some())?;
+    // Last, so that no other way out drops it.
+    let places = match ConnectionTable::new(rt.alloc(), limits.most, limits.memory) {
+        Ok(places) => places,
+        Err(_) => return Err(RunFault::Memory),
     };
     Ok(Service {
         limits,
