@@ -23,7 +23,7 @@ pub record Turned {R W : Type 0} (remaining : R → Option (List ℕ)) (contents
   pub writes : WentOut remaining contents middle turn.output c
 
 -- What so many turns did after which the engine goes on: what was read and written, and what is so
--- of both and of where the engine stands.
+-- of both and of the engine's state.
 pub record SoFar {R W S : Type 0} (remaining : R → Option (List ℕ)) (contents : W → Option (List ℕ)) (Holds : List ℕ → List ℕ → S → Type 0) (a : Pair R W)
     (count : ℕ) (state : S) (b : Pair R W) : Type 0 where
   pub read : List ℕ
@@ -56,7 +56,7 @@ module _ {R W : Type 0} (remaining : R → Option (List ℕ)) (contents : W → 
 
   -- ---- turns that go on
 
-  -- no turn was made, and of what stands at the beginning this is so
+  -- no turn was made, and this is so of what is there at the beginning
   pub no_turns : {S : Type 0} (Holds : List ℕ → List ℕ → S → Type 0) (a : Pair R W) (out : List ℕ) (state : S) (b : Pair R W)
       → Moved remaining contents a [] out b → Holds [] out state → SoFar remaining contents Holds a 0 state b
   no_turns Holds a out state b m h = record { read = []; out = out; moved = m; most = omega arith; least = omega arith; holds = h }

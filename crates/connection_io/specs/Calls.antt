@@ -26,6 +26,6 @@ write_call (Err e) bytes = WriteFails
 abbrev pub Sends : {C : Type 0} → (C → Call → C → Type 0) → C → List ℕ → C → Type 0
 Sends does a bytes b = (parts : List (List ℕ)) × (concat parts ≡ bytes) × FoldsTo does a (map Write parts) b
 
--- these bytes were written, and then a write failed
+-- some bytes were written, and then a write failed
 abbrev pub SendsUntilFault : {C : Type 0} → (C → Call → C → Type 0) → C → List ℕ → C → Type 0
 SendsUntilFault {C = C} does a bytes b = (m : C) × Sends does a bytes m × does m WriteFails b

@@ -4,7 +4,7 @@ use Rattle.std.specs.Io.KnownBytes.{Appends, Consumes, IsAtEnd, Keeps}
 use Rattle.connection_io.specs.Calls.{Call, Read, ReadFails, Write, WriteFails}
 use Rattle.connection_io.specs.declared.pair.Pair.{Pair}
 
--- what a call does to the bytes that a reader has left and to those that a writer holds, where they
+-- what a call does to the bytes that a reader has left and to those that a writer holds, if they
 -- are known
 abbrev pub MovesBytes : Option (List ℕ) → Option (List ℕ) → Call → Option (List ℕ) → Option (List ℕ) → Type 0
 MovesBytes left held (Read room bytes) left2 held2 = Consumes left left2 bytes × (bytes ≡ [] → 0 < room → IsAtEnd left2) × (held2 ≡ held)

@@ -5,21 +5,21 @@ ghost use Rattle.connection_io.specs.Calls.{Call, read_call, write_call, Sends, 
 
 use crate::pieces::{ReadFailed, WriteFailed};
 
-/// A reader and a writer in one, whose calls stand in the order in which they were made.
+/// A reader and a writer in one, whose calls are in the order in which they were made.
 ///
-/// Code over any connection can answer that a read or a write failed only where one did: what a
-/// call did is known from the call alone.
+/// Code over any connection can report that a read or a write failed only if one did: what a call
+/// did is known from the call alone.
 pub trait Connection {
     /// Relates the connection before a call, what came of the call, and the connection after it.
     ghost does: { Self → Call → Self → Type 0 } = { λ _ _ _. ⊤ };
 
-    /// Reads into the start of the buffer, and returns how many bytes came. 0 is the end, where
-    /// there is room.
+    /// Reads into the start of the buffer, and returns how many bytes came. 0 is the end, if there
+    /// is room.
     fn read(&mut self, buffer: &mut [u8]) -> Result<usize, ReadFailed>
         ensures within { IfOk result (λ n. n ≤ length buffer.new) }
         ensures did { does self.old (read_call result buffer.new) self.new };
 
-    /// Writes some bytes from their start on, and returns how many were taken: one at least, where
+    /// Writes some bytes from their start on, and returns how many were taken: at least one, if
     /// there are any.
     fn write(&mut self, bytes: &[u8]) -> Result<usize, WriteFailed>
         ensures within { IfOk result (λ n. n ≤ length bytes.now) }
@@ -28,7 +28,7 @@ pub trait Connection {
 }
 
 /// Reads a piece into the start of the buffer, in one read, and returns how many bytes it has. 0 is
-/// the end, where there is room.
+/// the end, if there is room.
 ///
 /// # Errors
 ///

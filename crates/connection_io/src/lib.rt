@@ -1,7 +1,7 @@
 //! Reading in pieces and writing whole, for all that runs over a reader and a writer; and
-//! connections: a reader and a writer whose calls stand in one order, so that a contract can say
-//! that a reply was written before the next request was read, and that a fault came of a read or a
-//! write that failed.
+//! connections: a reader and a writer whose calls are in one order, so that a contract can say that
+//! a reply was written before the next request was read, and that a fault came of a read or a write
+//! that failed.
 //!
 //! Its tests are in `tests_frame::connections`.
 #![tactic(auto)]

@@ -7,8 +7,8 @@ use crate::connection::Connection;
 use crate::pieces::{ReadFailed, WriteFailed};
 use std::io::{Read, Write};
 
-/// A reader and a writer as one connection. Where they report their bytes, its calls are known by
-/// what each took from the one and added to the other.
+/// A reader and a writer as one connection. If they report their bytes, its calls are known by what
+/// each took from the one and added to the other.
 #[derive(Drop)]
 pub struct Pair<'a, R, W> {
     reader: &'a mut R,

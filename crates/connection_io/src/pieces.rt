@@ -39,7 +39,7 @@ pub fn write_out<W: Write>(writer: &mut W, bytes: &[u8]) -> Result<(), WriteFail
     Ok(())
 }
 
-/// Room for a piece: [`PIECE_LEN`] bytes. Which they are is not said.
+/// Room for a piece: [`PIECE_LEN`] bytes, whose values are unspecified.
 pub fn piece_buffer(alloc: Global) -> Result<Vec<u8>, AllocError>
     ensures { IfOk result (λ buffer. length buffer.items ≡ 65536) }
 {

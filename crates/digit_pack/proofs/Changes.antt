@@ -59,7 +59,7 @@ record_change l records i bytes s p q = record {
       ∙ sym (entry-matrix_of (digit_rows l) (digit_cols l) (digit_at l records) r j h k);
 }
 
--- and the place tells the record
+-- the place tells the record
 pub record_of_place : (l : Shape) (i r j : ℕ) → 0 < digits_per_record l → 0 < l.groups → IsPlaceOf l i r j → j * l.groups + r / digits_per_record l ≡ i
 record_of_place l i r j some g place =
     let k : ℕ = digits_per_record l in

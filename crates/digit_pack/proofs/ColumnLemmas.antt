@@ -47,8 +47,9 @@ written_as old old' new first first' col col' words words' eo ef ec ew w =
     let w3 : WritesColumn old' new first' col' words = subst (λ c. WritesColumn old' new first' c words) ec w2 in
     subst (λ (ws : List ℕ). WritesColumn old' new first' col' ws) ew w3
 
--- ---- digits that are swapped with others `others` were `words`: the first n of them stand in
--- column col, from row first down, and have what stood there in their places
+-- ---- digits that are swapped with others
+-- `others` were `words`: the first n of them are in column col, from row first down, and have what
+-- was there in their places
 pub record SwapsFirst (old new : WordMatrix) (first col n : ℕ) (words others : List ℕ) : Type 0 where
   pub written : WritesFirst old new first col n words
   pub count : length others ≡ length words

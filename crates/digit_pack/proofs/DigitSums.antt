@@ -41,7 +41,7 @@ digit-lt w x t = mod_below (x / 2 ^ (w * t)) (2 ^ w) (pow_pos w)
 pub mod_twice : (x r k : ℕ) → x % 2 ^ (r + k) % 2 ^ k ≡ x % 2 ^ k
 mod_twice x r k = ap (λ y. y % 2 ^ k) (mod-pow-add x r k) ∙ mod_low (x / 2 ^ k % 2 ^ r) k (x % 2 ^ k) (mod_below x (2 ^ k) (pow_pos k))
 
--- a digit says nothing of what stands above it
+-- a digit says nothing of what is above it
 digit_of_low : (w t n x : ℕ) → t < n → digit w (x % 2 ^ (w * n)) t ≡ digit w x t
 unfolding digit
 digit_of_low w t n x h =

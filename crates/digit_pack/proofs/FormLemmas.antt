@@ -14,7 +14,7 @@ slotted_is form e = elim (or_cases _ _ e) [
 slots_at : (form other len : ℕ) → form ≡ other → is_form form len ≡ true → is_form other len ≡ true
 slots_at form other len same e = ap (λ f. is_form f len) (sym same) ∙ e
 
--- a slot has two bytes at least
+-- a slot has at least two bytes
 pub two_bytes : (form len : ℕ) → is_form form len ≡ true → is_slotted form ≡ true → 2 ≤ len
 unfolding is_form is_slotted
 two_bytes form len e slots = elim (slotted_is form slots) [

@@ -52,7 +52,7 @@ wide_room l ok =
     let few : digit_rows l * digit_cols l ≤ 32768 * 32768 = mul-le (digit_rows l) (digit_cols l) 32768 32768 (few_rows l ok) (few_cols l ok) in
     omega (arith, few)
 
--- so has any store that holds a matrix of words, where the layout is an ordinary one
+-- any store that holds a matrix of words has room for the digits of an ordinary layout
 pub ordinary_room : (l : Shape) → IsLayout l → l.side ≡ ordinary_side → digit_rows l * digit_cols l ≤ 33554432
 ordinary_room l ok e =
     let few : digit_rows l * digit_cols l ≤ 4096 * 4096 =

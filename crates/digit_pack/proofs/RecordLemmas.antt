@@ -31,8 +31,8 @@ shape_of_layout l h = record { width = omega arith; record_len = omega arith; gr
 pub length-record_digits : (l : Shape) (bytes : List ℕ) → length (record_digits l bytes) ≡ digits_per_record l
 length-record_digits l bytes = length-list_of (digits_per_record l) (λ t. digit l.width (number_of 8 bytes) t)
 
--- the digit matrix of xs, with the digits of record i written in their place, is that of ys, where
--- ys has that record and else those of xs
+-- the digit matrix of xs, with the digits of record i written in their place, is that of ys, if ys
+-- has that record and otherwise those of xs
 pub record_written : (l : Shape) (xs ys : List (List ℕ)) (i : ℕ) (bytes : List ℕ) (new : WordMatrix) → IsShape l → i < l.count →
     record_at ys i ≡ bytes → ((k : ℕ) → k ≢ i → record_at ys k ≡ record_at xs k) →
     WritesColumn (digit_matrix l xs) new (first_row l i) (column_of l i) (record_digits l bytes) → new ≡ digit_matrix l ys

@@ -44,7 +44,7 @@ unpack-pack l bytes h r =
       same = ap (λ n. digits_of 8 l.record_len n) same ∙ digits_of-number_of 8 bytes l.record_len len r.each;
     }
 
--- a record's digits stand inside the matrix
+-- a record's digits are inside the matrix
 pub row_inside : (l : Shape) (i d : ℕ) → 0 < l.groups → d < digits_per_record l → first_row l i + d < digit_rows l
 row_inside l i d g q =
     let inside : i % l.groups < l.groups = mod_below i l.groups g in
@@ -64,7 +64,7 @@ entry-record l records i d s p q =
     ∙ ap (λ k. digit l.width (number_of 8 (record_at records k)) ((i % l.groups * digits_per_record l + d) % digits_per_record l)) (div-add-mod' i l.groups)
     ∙ ap (λ k. digit l.width (number_of 8 (record_at records i)) k) (mod-mul-add (i % l.groups) (digits_per_record l) d q)
 
--- the digits of a word stand below one another
+-- the digits of a word are below one another
 pub entry-decomposed : (w : ℕ) (a : WordMatrix) (k t j : ℕ) → t < split_count w → k < a.rows → j < a.cols →
     entry (decomposed w a) (k * split_count w + t) j ≡ digit w (entry a k j) t
 entry-decomposed w a k t j p q r =

@@ -1,4 +1,4 @@
--- What the top digit of a record decides, and where its bytes stand.
+-- What the top digit of a record decides, and where its bytes are.
 use Rattle.std.proofs.Common.{◌≡◌, ℕ, zero, suc, ◌+◌, ◌-◌, ◌*◌, ◌/◌, ◌%◌, ◌^◌, ◌<◌, ◌≤◌, arith, ap, ◌∙◌, sym, subst, List, length}
 use Rattle.std.proofs.lemmas.Nat.{one_shl}
 use Rattle.std.specs.Prelude.{slice_index, All}

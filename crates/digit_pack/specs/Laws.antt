@@ -15,7 +15,7 @@ abbrev pub DecomposedRecomposes : Type 0
 DecomposedRecomposes = (w : ℕ) (a : WordMatrix) → 0 < w → length a.words ≡ a.rows * a.cols → All (λ word. word < 2 ^ 32) a.words →
     recomposed w (decomposed w a) ≡ a
 
--- digit t of the word in row k stands in row k split_count + t
+-- digit t of the word in row k is in row k split_count + t
 abbrev pub DecomposedStandsBelow : Type 0
 DecomposedStandsBelow = (w : ℕ) (a : WordMatrix) (k t j : ℕ) → t < split_count w → k < a.rows → j < a.cols →
     entry (decomposed w a) (k * split_count w + t) j ≡ digit w (entry a k j) t
@@ -31,7 +31,7 @@ pub record PacksAndUnpacks (l : Shape) (bytes : List ℕ) : Type 0 where
 abbrev pub PackUnpacks : Type 0
 PackUnpacks = (l : Shape) (bytes : List ℕ) → 0 < l.width → IsRecord l bytes → PacksAndUnpacks l bytes
 
--- digit d of record i stands in its column, d rows below its first row
+-- digit d of record i is in its column, d rows below its first row
 abbrev pub RecordStandsInItsColumn : Type 0
 RecordStandsInItsColumn = (l : Shape) (records : List (List ℕ)) (i d : ℕ) → IsShape l → i < l.count → d < digits_per_record l →
     entry (digit_matrix l records) (first_row l i + d) (column_of l i) ≡ digit l.width (number_of 8 (record_at records i)) d
@@ -41,7 +41,7 @@ abbrev pub RecordStandsInside : Type 0
 RecordStandsInside = (l : Shape) (i d : ℕ) → IsShape l → i < l.count → d < digits_per_record l →
     (first_row l i + d < digit_rows l) × (column_of l i < digit_cols l)
 
--- an entry whose record there is none of is 0
+-- an entry that belongs to no record is 0
 abbrev pub UnusedSlotsAreZero : Type 0
 UnusedSlotsAreZero = (l : Shape) (records : List (List ℕ)) (r j : ℕ) → r < digit_rows l → j < digit_cols l →
     length records ≤ j * l.groups + r / digits_per_record l → entry (digit_matrix l records) r j ≡ 0

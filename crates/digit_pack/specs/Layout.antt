@@ -1,4 +1,4 @@
--- Where the digits of records stand.
+-- Where the digits of records are.
 use Rattle.std.specs.Prelude.{◌≡◌, ◌⊎◌, ℕ, ◌+◌, ◌-◌, ◌*◌, ◌/◌, ◌%◌, ◌^◌, ◌<◌, ◌≤◌, if◌then◌else◌, List, [], length, take, drop, slice_index_or, All, Bool, nat_le, nat_lt, ◌&&◌, ◌||◌}
 use Rattle.digit_pack.specs.declared.layout.LayoutError.{LayoutError}
 use Rattle.digit_pack.specs.declared.layout.LayoutError.TheVariants.{BadWidth, BadRecord, BadGroups, BadCount}
@@ -57,7 +57,7 @@ digit_rows l = l.groups * digits_per_record l
 abbrev pub digit_cols : Shape → ℕ
 digit_cols l = (l.count + l.groups - 1) / l.groups
 
--- record i stands in this column, from this row on
+-- record i is in this column, from this row on
 abbrev pub column_of : Shape → ℕ → ℕ
 column_of l i = i / l.groups
 
@@ -65,7 +65,7 @@ column_of l i = i / l.groups
 abbrev pub first_row : Shape → ℕ → ℕ
 first_row l i = i % l.groups * digits_per_record l
 
--- the bytes of record i; none where there is no such record
+-- the bytes of record i; none if there is no such record
 abbrev pub record_at : List (List ℕ) → ℕ → List ℕ
 record_at records i = slice_index_or records i []
 
@@ -115,8 +115,7 @@ HasRoomForNoise l = (l.side ≤ ordinary_side) ⊎ (l.width ≤ 9)
 abbrev pub HasRecord : Shape → Type 0
 HasRecord l = (1 ≤ l.record_len) × (l.record_len ≤ 256)
 
--- how many words the parts of a query have, where each digit of a record is asked for by one word
--- for each row
+-- how many words the parts of a query have: for each digit of a record one word for each row
 abbrev pub part_words : Shape → ℕ
 part_words l = digits_per_record l * digit_rows l
 
@@ -155,6 +154,6 @@ IsLayoutFault l BadRecord = (HasWidth l × HasRoomForNoise l) × ¬ HasRecord l
 IsLayoutFault l BadGroups = (HasWidth l × HasRoomForNoise l) × HasRecord l × ¬ HasGroups l
 IsLayoutFault l BadCount = (HasWidth l × HasRoomForNoise l) × HasRecord l × HasGroups l × ¬ HasCount l
 
--- no bit of the number that the digits write stands past the record's last byte
+-- no bit of the number that the digits write is set past the record's last byte
 abbrev pub FitsRecord : Shape → List ℕ → Type 0
 FitsRecord l digits = number_of l.width digits < 2 ^ (8 * l.record_len)

@@ -1,4 +1,4 @@
-//! Records that stand one after another in bytes, and their digits.
+//! Records one after another in bytes, and their digits.
 
 ghost use Rattle.std.specs.Prelude.{◌≡◌, ◌+◌, ◌*◌, ◌<◌, ◌≤◌, All, IfOk, length, slice_set};
 ghost use Rattle.digit_pack.specs.Columns.{WritesColumn};
@@ -9,7 +9,7 @@ use crate::layout::{Layout, pack};
 use crate::store::DigitStore;
 use std::alloc::{AllocError, Global};
 
-/// The bytes of record i, of records that stand one after another in `bytes`.
+/// The bytes of record i, of records one after another in `bytes`.
 pub fn nth_record<'a>(layout: &Layout, bytes: &'a [u8], i: usize) -> &'a [u8]
     requires count { length bytes.now ≡ layout.now.count * layout.now.record_len }
     requires index { i < layout.now.count }
@@ -45,7 +45,7 @@ pub fn write_digits<S: DigitStore>(digits: &mut S, first: usize, col: usize, wri
     }
 }
 
-/// The digit matrix of records that stand one after another in `bytes`, kept in a store that has
+/// The digit matrix of the records that are one after another in `bytes`, kept in a store that has
 /// room for it. Only refused memory gives an `Err`.
 ///
 /// The records of a group, which have their rows in common, are written one after another, so that

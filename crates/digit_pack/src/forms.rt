@@ -12,7 +12,7 @@ pub fn is_wide(form: u16) -> bool
     form > 128
 }
 
-/// Whether each record of a form has a length of its own, and stands in a slot.
+/// Whether each record of a form has a length of its own, and is in a slot.
 #[tactic(auto, unfolding(crate::specs::Slots::is_slotted))]
 pub fn is_slotted(form: u16) -> bool
     ensures { result ≡ is_slotted form }
@@ -21,7 +21,7 @@ pub fn is_slotted(form: u16) -> bool
 }
 
 /// Whether there is such a form, for records of so many bytes: 1 and 129; 2 and 130 if a record has
-/// two bytes at least.
+/// at least two bytes.
 #[tactic(auto, unfolding(crate::specs::Slots::is_form))]
 pub fn is_form(form: u16, record_len: u16) -> bool
     ensures { result ≡ is_form form record_len }

@@ -10,7 +10,7 @@ use crate::buffers::digit_buffer;
 use crate::layout::{Layout, unpack};
 use crate::store::DigitStore;
 
-/// Writes the bytes of record i, as the digits have them, into `out`, whatever it held. It takes no
+/// Writes the bytes of record i, as the digits have them, into `out`, whatever it held. Takes no
 /// memory.
 pub fn copy_record<S: DigitStore>(layout: &Layout, digits: &S, i: usize, out: &mut [u8])
     requires rows { (S.digits digits.now).rows ≡ digit_rows layout.now }
@@ -24,7 +24,7 @@ pub fn copy_record<S: DigitStore>(layout: &Layout, digits: &S, i: usize, out: &m
     let (first, col) = layout.place(i);
     let packed = &mut room[..layout.digits_per_record()];
     read_digits(digits, first, col, packed);
-    // The digits are a record's: no refusal is left.
+    // The digits are a record's: this can't fail.
     unpack(layout, packed, out).unwrap();
 }
 

@@ -27,7 +27,7 @@ pub fn decomposed_recomposes()
     ensures { DecomposedRecomposes }
 {}
 
-/// Digit t of the word in row k stands in row k κ + t of the decomposed matrix, κ digits to a word.
+/// Digit t of the word in row k is in row k κ + t of the decomposed matrix, κ digits to a word.
 pub fn decomposed_stands_below()
     ensures { DecomposedStandsBelow }
 {}
@@ -37,7 +37,7 @@ pub fn pack_unpacks()
     ensures { PackUnpacks }
 {}
 
-/// Digit d of record i stands in its column, d rows below its first row.
+/// Digit d of record i is in its column, d rows below its first row.
 pub fn record_stands_in_its_column()
     ensures { RecordStandsInItsColumn }
 {}
@@ -75,7 +75,7 @@ pub fn digits_are_small()
 {}
 
 /// `read_slot` accepts exactly the slots that `fill_slot` writes: a record is read from a slot
-/// where it fills the slot, and there alone.
+/// exactly when it fills the slot.
 pub fn slots_are_those_filled()
     ensures { SlotsAreThoseFilled }
 {}

@@ -1,4 +1,4 @@
-//! Where the digits of records stand.
+//! Where the digits of records are.
 
 ghost use Rattle.std.specs.Prelude.{◌≡◌, ◌+◌, ◌*◌, ◌/◌, ◌%◌, ◌^◌, ◌<◌, ◌≤◌, IfOk, IfErr};
 ghost use Rattle.std.specs.Prelude.{MatchResult, length, slice_index, All};
@@ -45,18 +45,17 @@ pub const MAX_PART_WORDS: usize = 4_128_768;
 /// Why there is no such layout: the first cause in the order of the variants.
 #[derive(Clone, Copy, Debug, PartialEq, Eq, Error)]
 pub enum LayoutError {
-    /// A digit has 6 to 10 bits, and at most 9 in a wide layout.
+    /// Digits of fewer than 6 bits or more than 10, or of more than 9 in a wide layout.
     #[error("a digit has 6 to 10 bits")]
     BadWidth,
-    /// A record has 1 to [`MAX_RECORD_LEN`] bytes.
+    /// Records of no bytes, or of more than [`MAX_RECORD_LEN`].
     #[error("a record has 1 to 256 bytes")]
     BadRecord,
-    /// A column holds at least one record, and its records at most [`MAX_ROWS`] digits, or
-    /// [`WIDE_SIDE`] in a wide layout; the parts of a query have at most [`MAX_PART_WORDS`] words.
+    /// Columns of no record, or of more than [`MAX_ROWS`] digits ([`WIDE_SIDE`] in a wide layout);
+    /// or more than [`MAX_PART_WORDS`] words in the parts of a query.
     #[error("a column holds at least one record and at most 4096 digits")]
     BadGroups,
-    /// There is at least one record, and there are at most [`MAX_COLS`] columns of them, or
-    /// [`WIDE_SIDE`] in a wide layout.
+    /// No record, or more than [`MAX_COLS`] columns of records ([`WIDE_SIDE`] in a wide layout).
     #[error("there are 1 to 4096 columns of records")]
     BadCount,
 }
@@ -67,8 +66,8 @@ pub enum LayoutError {
 pub struct BadDigits;
 
 /// How many rows and columns there may be, how many bits a digit has, how many bytes a record, how
-/// many records stand in a column, and how many there are: always within the limits. A contract
-/// sees it as a `Shape`.
+/// many records a column has, and how many there are: always within the limits. A contract sees it
+/// as a `Shape`.
 #[derive(Clone, Copy, Debug, PartialEq, Eq)]
 pub struct Layout {
     side: usize,
@@ -111,8 +110,8 @@ impl Model for Layout {
 
 impl Layout {
     /// The ordinary layout of these sizes: digits of `width` bits, records of `record_len` bytes,
-    /// `groups` records to a column, `count` records. It is accepted exactly within the limits;
-    /// else the first cause is named, in the order of [`LayoutError`].
+    /// `groups` records to a column, `count` records. Accepted exactly when all are within the
+    /// limits; else the first cause is named, in the order of [`LayoutError`].
     pub fn new(
         width: u32,
         record_len: usize,
@@ -201,7 +200,7 @@ impl Layout {
         self.record_len
     }
 
-    /// How many records stand in a column.
+    /// How many records a column has.
     pub fn groups(&self) -> usize
         ensures value { result ≡ self.now.groups }
         ensures layout { IsLayout self.now }
@@ -245,8 +244,7 @@ impl Layout {
         (self.count + self.groups - 1) / self.groups
     }
 
-    /// The first row and the column of record i. Its digits stand in this column, from this row
-    /// down.
+    /// The first row and the column of record i. Its digits are in this column, from this row down.
     pub fn place(&self, i: usize) -> (usize, usize)
         requires { i < self.now.count }
         ensures value { result ≡ (first_row self.now i, column_of self.now i) }

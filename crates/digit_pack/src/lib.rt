@@ -1,8 +1,8 @@
-//! Where the digits of records stand in a matrix, how records and words are written in digits, and
+//! Where the digits of records are in a matrix, how records and words are written in digits, and
 //! the stores that keep a matrix of digits.
 //!
 //! A digit has w bits, w in 6..=10. A record is the whole number of its bytes, least significant
-//! first, written in digits of w bits, least significant first; `groups` records stand below one
+//! first, written in digits of w bits, least significant first; `groups` records are below one
 //! another in a column. `specs/` defines all of it; the functions of [`laws`] have empty bodies,
 //! and their contracts are the laws of these definitions.
 //!

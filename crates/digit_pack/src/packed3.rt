@@ -18,8 +18,8 @@ use std::marker::Model;
 /// A store of digits below 1024, three in each word, and at most `MOST` of them. A contract sees it
 /// as its matrix of digits.
 ///
-/// A row is cols / 3 words, rounded up; digit 3 t + u of it stands in bits 10 u to 10 u + 9 of its
-/// word t, and the other bits are 0.
+/// A row is cols / 3 words, rounded up; digit 3 t + u of it is in bits 10 u to 10 u + 9 of its word
+/// t, and the other bits are 0.
 #[derive(Drop)]
 pub struct PackedDigits<const MOST: usize> {
     alloc: Global,
@@ -31,7 +31,7 @@ pub struct PackedDigits<const MOST: usize> {
 /// A store of at most 33,554,432 digits.
 pub type Packed3 = PackedDigits<33_554_432>;
 
-/// A store of at most 2^30 digits: as many as a wide layout has.
+/// A store of at most 2^30 digits: as many as a wide layout may have.
 pub type Wide3 = PackedDigits<1_073_741_824>;
 
 impl<const MOST: usize> Model for PackedDigits<MOST> {
@@ -79,7 +79,7 @@ fn replaced(word: u32, t: usize, digit: u32) -> u32
     }
 }
 
-// Swaps digits of column j, from row `first` on, with others. The sizes are parameters and no
+// Swaps digits of column j, from row `first` on, with others. The sizes are parameters and not
 // fields of a store, so that the processor reads them once, and not again after each word that is
 // written.
 fn swap_packed(

@@ -31,7 +31,7 @@ pub fn fill_slot(bytes: &[u8], slot: &mut [u8])
     padding.fill(0);
 }
 
-/// The length of the record in a slot, which stands after the slot's first two bytes. It takes no
+/// The length of the record in a slot, which begins after the slot's first two bytes. Takes no
 /// memory.
 ///
 /// # Errors
@@ -54,18 +54,18 @@ pub fn read_slot(slot: &[u8]) -> Result<usize, BadSlot>
     Ok(len)
 }
 
-/// The record in a slot. It takes no memory.
+/// The record in a slot. Takes no memory.
 pub fn slot_record(slot: &[u8]) -> &[u8]
     requires { is_slot slot.now ≡ true }
     ensures { result.now ≡ content_of slot.now }
 {
-    // A record fills these bytes: no refusal is left.
+    // A record fills these bytes: this can't fail.
     let len = read_slot(slot).unwrap();
     &slot[2..2 + len]
 }
 
-/// Writes another record into the slot of record i, of slots that stand one after another in
-/// `bytes`, and changes no other. It takes no memory.
+/// Writes another record into the slot of record i, of slots one after another in `bytes`, and
+/// changes no other. Takes no memory.
 pub fn write_slot(layout: &Layout, bytes: &mut [u8], i: usize, written: &[u8])
     requires count { length bytes.old ≡ layout.now.count * layout.now.record_len }
     requires index { i < layout.now.count }
@@ -77,8 +77,8 @@ pub fn write_slot(layout: &Layout, bytes: &mut [u8], i: usize, written: &[u8])
     fill_slot(written, &mut bytes[i * len..i * len + len]);
 }
 
-/// Whether the bytes of each record are a slot, of records that stand one after another in `bytes`.
-/// Takes no memory.
+/// Whether the bytes of each record are a slot, of records one after another in `bytes`. Takes no
+/// memory.
 pub fn are_slots(layout: &Layout, bytes: &[u8]) -> bool
     requires { length bytes.now ≡ layout.now.count * layout.now.record_len }
     ensures { result ≡ list_all is_slot (records_in layout.now bytes.now) }

@@ -53,7 +53,7 @@ pub trait DigitStore: Sized + Drop {
         ensures { digits self.new ≡ with_entry (digits self.old) i j digit };
 
     /// Swaps digits of column j with others: `others` has one for each row from `first` on, and
-    /// afterwards those that stood there, in the same order.
+    /// afterwards those that were there, in the same order.
     fn swap_digits(&mut self, first: usize, j: usize, others: &mut [u32])
         requires rows { first + length others.old ≤ (digits self.old).rows }
         requires col { j < (digits self.old).cols }
@@ -75,8 +75,8 @@ pub trait DigitStore: Sized + Drop {
     /// stay.
     ///
     /// `TooLarge` exactly when there would be more than `most` digits, judged before any memory is
-    /// asked for; else `Memory`, where that is refused. After a refusal all is as it was. As many
-    /// columns as there are give `Ok`, and take no memory.
+    /// asked for; else `Memory`, if that is refused. After a refusal all is as it was. Asking for
+    /// as many columns as there are gives `Ok`, and takes no memory.
     fn grow(&mut self, cols: usize) -> Result<(), MatrixError>
         requires { (digits self.old).cols ≤ cols }
         ensures grown { OnOk result (digits self.new ≡ widened (digits self.old) cols) }
@@ -146,7 +146,7 @@ pub trait DigitStore: Sized + Drop {
     }
 }
 
-/// Judges whether a store of at most so many digits may have these rows and columns. It takes no
+/// Judges whether a store of at most so many digits may have these rows and columns. Takes no
 /// memory.
 pub fn judge_size(most: usize, rows: usize, cols: usize) -> Result<(), MatrixError>
     ensures fits { OnOk result (rows * cols ≤ most) }

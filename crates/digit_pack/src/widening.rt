@@ -18,8 +18,8 @@ fn copy_rows(words: &[u32], rows: usize, from: usize, to: usize, wide: &mut [u32
     }
 }
 
-/// The words of `rows` rows of `to` words each: row i begins with row i of `words`, where a row has
-/// `from`, and the rest of it is 0. Only refused memory gives an `Err`.
+/// The words of `rows` rows of `to` words each: row i begins with row i of `words`, whose rows have
+/// `from` words, and the rest of it is 0. Only refused memory gives an `Err`.
 pub fn widened_words(
     alloc: Global,
     words: &[u32],

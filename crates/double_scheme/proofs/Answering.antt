@@ -57,7 +57,7 @@ mod_small t k l =
     let e : t ≡ 0 * k + t = omega arith in
     ap (λ n. n % k) e ∙ mod-mul-add 0 k t l
 
--- the row after has digits of the same column, where it isn't the first of its column
+-- the row after has digits of the same column, if it isn't the first of its column
 pub same_column : (r n : ℕ) → 0 < n → (r + 1) % n ≢ 0 → (r + 1) / n ≡ r / n
 same_column r n some inside =
     let q : ℕ = r / n in

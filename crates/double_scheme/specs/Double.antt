@@ -80,12 +80,12 @@ double_answer l digits server_hint a2 words =
     let first_answer = first_answer_of l.width digits (take (digit_cols l) words) in
     (product first_answer a2).words ++ part_answers_of l server_hint first_answer words
 
--- ---- reading, from the words of an answer: the first answer's hint h, and of each part the words
+-- ---- reading, from the words of an answer: the first answer's hint h, and the words of each part
 -- how many words a part of an answer has
 abbrev pub words_of_part : ℕ → ℕ → ℕ
 words_of_part w n = n * split_count w + split_count w
 
--- how many words an answer has, where the public matrices have n columns
+-- how many words an answer has, under public matrices of n columns
 abbrev pub double_answer_count : Shape → ℕ → ℕ
 double_answer_count l n = n * split_count l.width + digits_per_record l * words_of_part l.width n
 
@@ -102,7 +102,7 @@ answer_part w n answer d = take (words_of_part w n) (drop (n * split_count w + d
 abbrev pub second_digit : ℕ → WordMatrix → List ℕ → List ℕ → ℕ → ℕ
 second_digit w hint s words r = nearest w (stripped (slice_index words r) (row hint r) s)
 
--- the word whose digits stand from row k split_count on
+-- the word whose digits begin in row k split_count
 abbrev pub second_word : ℕ → WordMatrix → List ℕ → List ℕ → ℕ → ℕ
 second_word w hint s words k = joined w (list_of (split_count w) (λ t. second_digit w hint s words (k * split_count w + t)))
 

@@ -62,9 +62,9 @@ abbrev pub IsWholeAt : Shape → Stage → Type 0
 IsWholeAt l (Column n) = ⊥
 IsWholeAt l (Parts d r) = digits_per_record l ≤ d
 
--- How far an answer is, as one number that each step makes greater, where the server's hint has h
--- rows: the rows of the first layer's answer, then for each part the rows of the server's hint, and
--- one for the end of each of these.
+-- How far an answer is, as one number that each step makes greater, for a server's hint of h rows:
+-- the rows of the first layer's answer, then for each part the rows of the server's hint, and one
+-- for the end of each of these.
 abbrev pub rows_made : Shape → ℕ → Stage → ℕ
 rows_made l h (Column n) = n
 rows_made l h (Parts d r) = digit_rows l + 1 + d * (h + 1) + r

@@ -16,8 +16,7 @@ use matrix_u32::{Kernel, Matrix};
 use std::alloc::{AllocError, Global};
 use std::marker::Model;
 
-/// How many words an answer has, where the public matrices have `dimension` columns: κ n + K κ (n +
-/// 1).
+/// How many words an answer has, under public matrices of `dimension` columns: κ n + K κ (n + 1).
 pub fn answer_count(layout: &Layout, dimension: usize) -> usize
     requires { dimension ≤ 1024 }
     ensures { result ≡ double_answer_count layout.now dimension }
@@ -27,8 +26,8 @@ pub fn answer_count(layout: &Layout, dimension: usize) -> usize
     first + layout.digits_per_record() * (first + digits)
 }
 
-/// The memory that an answer is made in. It is taken by sizes alone: where it is refused, no word
-/// of a query was looked at.
+/// The memory that an answer is made in, taken by sizes alone: if it is refused, no word of a query
+/// was looked at.
 ///
 /// A contract sees it as these sizes.
 #[derive(Drop)]
@@ -73,7 +72,7 @@ impl AnswerBuffers {
         })
     }
 
-    /// The answer to the words of a query, as [`answer`] says it. It takes no memory.
+    /// The answer to the words of a query, as [`answer`] says it. Takes no memory.
     pub fn fill<K: Kernel, S: DigitStore>(
         self,
         kernel: K,

@@ -13,7 +13,7 @@ use simple_scheme::{HintWatcher, Unwatched};
 use std::alloc::{AllocError, Global};
 
 // The columns of a matrix as rows, each word as a column of its digits. A column is read once, into
-// a list of its own, since its words stand far apart.
+// a list of its own, since its words are far apart.
 pub(crate) fn decompose<S: DigitStore>(alloc: Global, a: &Matrix, w: u32) -> Result<S, AllocError>
     requires width { (6 ≤ w) × (w ≤ 10) }
     requires size { a.now.cols * split_count w * a.now.rows ≤ S.most }
@@ -36,7 +36,7 @@ pub(crate) fn decompose<S: DigitStore>(alloc: Global, a: &Matrix, w: u32) -> Res
     Ok(store)
 }
 
-// Makes `words` the column of a whose digits stand in row r, where they are that of the row before.
+// Makes `words` the column of a whose digits are in row r, from that of the row before.
 fn turn_to_row(a: &Matrix, w: u32, r: usize, words: &mut [u32])
     requires width { (6 ≤ w) × (w ≤ 10) }
     requires row { r < a.now.cols * split_count w }
@@ -85,7 +85,7 @@ fn put_digit_row<S: DigitStore>(store: &mut S, words: &[u32], w: u32, r: usize)
 ///
 /// The first layer's hint is read across: no transposed copy is made, and nothing is held but the
 /// two hints and one of its columns. The store has room for the server's hint, and there are at
-/// most 1024 columns, so only memory can be wanting.
+/// most 1024 columns, so only refused memory gives an `Err`.
 pub fn setup<K: Kernel, S: DigitStore>(
     alloc: Global,
     kernel: K,

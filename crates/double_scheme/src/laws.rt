@@ -5,10 +5,10 @@ ghost use Rattle.double_scheme.specs.Laws.{QuietPartGivesItsRow};
 ghost use Rattle.double_scheme.specs.Laws.{QuietDoubleRetrievalReadsTheRecord};
 ghost use Rattle.double_scheme.specs.Laws.{DoubleCertainShapeIsQuiet};
 
-/// Under the records' own hints, where the retrieval is quiet in both layers, the second layer's
-/// words of part d round, each to its digit, to a column of the server's hint and of the first
-/// answer's digits: that of the row in which digit d of the record stands. Joined to words they are
-/// this row of the first layer's hint and this word of the first layer's answer.
+/// Under the records' own hints, if the retrieval is quiet in both layers, the second layer's words
+/// of part d round, each to its digit, to a column of the server's hint and of the first answer's
+/// digits: that of the row in which digit d of the record is. Joined to words they are this row of
+/// the first layer's hint and this word of the first layer's answer.
 pub fn quiet_part_gives_its_row()
     ensures { QuietPartGivesItsRow }
 {
@@ -20,7 +20,7 @@ pub fn quiet_part_gives_its_row()
 }
 
 /// Under the records' own hints, the answer to the query for a record reads as the record's digits,
-/// wherever the retrieval is quiet in both layers.
+/// if the retrieval is quiet in both layers.
 pub fn quiet_retrieval_reads_the_record()
     ensures { QuietDoubleRetrievalReadsTheRecord }
 {

@@ -29,8 +29,8 @@ struct PartBuffers {
     products: Matrix,
 }
 
-/// The memory that a query is made in. It is taken by sizes alone: no index, number or seed is
-/// known where it is refused.
+/// The memory that a query is made in, taken by sizes alone: no index, number or seed is known yet
+/// when it is refused.
 ///
 /// A contract sees it as these sizes.
 #[derive(Drop)]
@@ -81,9 +81,9 @@ impl QueryBuffers {
         })
     }
 
-    /// The query for record i, as [`query`] says it, where the words of both public matrices come
-    /// from sources, row by row. No matrix is held as a whole, and each is gone through once. No
-    /// memory is taken.
+    /// The query for record i, as [`query`] says it, with the words of both public matrices from
+    /// sources, row by row. No matrix is held as a whole, and each is gone through once. No memory
+    /// is taken.
     pub fn fill<K: Kernel>(
         self,
         kernel: K,

@@ -27,7 +27,7 @@ pub fn part_secrets(
 {
     seed_expand::source_gives_words();
     fill_words(&mut WordSource::at(seed, 4 * number + 2, 0), &mut words);
-    // There are parts * n words, and at most 342 * 1024 of them: no refusal is left.
+    // There are parts * n words, and at most 342 * 1024 of them: this can't fail.
     Matrix::from_words(parts, n, words).unwrap()
 }
 

@@ -32,7 +32,7 @@ pub(crate) enum Stage {
     Parts(usize, usize),
 }
 
-/// An answer of which some steps were made. It has its memory from the beginning on.
+/// An answer of which some steps were made, with its memory from the beginning on.
 #[derive(Drop)]
 pub struct AnswerSteps {
     layout: Layout,
@@ -46,8 +46,8 @@ pub struct AnswerSteps {
     words: Vec<u32>,
 }
 
-/// How many rows of digits are made, of so many that are left: at least one, and else no more than
-/// have the digits that may be read.
+/// How many rows of digits are made, of so many that are left: at least one, and otherwise no more
+/// than the digits that may be read allow.
 pub fn rows_in_step(most_digits: usize, cols: usize, left: usize) -> usize
     requires { 0 < left }
     ensures some { 0 < result }
@@ -352,7 +352,7 @@ fn put_part_rows<K: Kernel, S: DigitStore>(
 
 impl AnswerSteps {
     /// The memory of an answer on a layout, under public matrices of `dimension` columns, with no
-    /// step made. It is taken by sizes alone.
+    /// step made: taken by sizes alone.
     pub fn new(alloc: Global, layout: &Layout, dimension: usize) -> Result<AnswerSteps, AllocError>
         requires { dimension ≤ 1024 }
         ensures so_far { IfOk result (λ s. (digits server_hint a2 : WordMatrix) (query : List ℕ) →

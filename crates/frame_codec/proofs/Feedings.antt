@@ -45,9 +45,9 @@ fault_stands wide BadPayload bytes clear h = h
 fault_stands wide Memory bytes clear h = absurd (clear refl)
 fault_stands wide Failed bytes clear h = h
 
--- ---- where memory isn't refused
+-- ---- if memory isn't refused
 
--- what is left where a piece's frames end has no frame at its prefix
+-- what is left where a piece's frames end has no frame at its beginning
 ends_without : (wide : Bool) (old : List ℕ) (piece : List ℕ) (answer : Result (Unit {0}) ReadFault) (frames : List Frame) (new : Option (List ℕ)) →
     Feeds wide (Some old) piece answer frames new → answer ≢ Err Memory
     → (rest : List ℕ) × Begins wide (old ++ piece) frames rest × (HasFrame wide rest → ⊥)
@@ -78,9 +78,9 @@ feeds_decide wide (Some old) piece (Err fault) (Err other) frames others new end
     let same : fault ≡ other = one_fault wide fault other f.0.0 h (subst (HasFault wide other) (sym e.1) k) in
     (ap (λ (x : ReadFault). Err x) same, e.0, f.1 ∙ sym g.1)
 
--- ---- where it may be refused
+-- ---- if it may be refused
 
--- what stands before the end of a piece
+-- what comes before the end of a piece
 pub some_begin : (wide : Bool) (old piece : List ℕ) (answer : Result (Unit {0}) ReadFault) (frames : List Frame) (new : Option (List ℕ)) →
     Feeds wide (Some old) piece answer frames new → (rest : List ℕ) × Begins wide (old ++ piece) frames rest
 some_begin wide old piece (Ok done) frames new f = (f.0, f.1.begins)

@@ -1,4 +1,4 @@
--- Bytes copied from the front of two lists, one after the other.
+-- Bytes copied from the beginning of two lists, one after the other.
 use Rattle.std.proofs.Common.{◌≡◌, ℕ, zero, suc, ◌+◌, ◌-◌, ◌<◌, ◌≤◌, List, [], ◌∷◌, ◌++◌, length, get_or, take, refl, sym, ap, ◌∙◌, arith}
 use Rattle.std.specs.Prelude.{slice_index, slice_set}
 use Rattle.std.proofs.lemmas.List.{get_or_append_left, get_or-append_right, length-set, length-take, take_all, take_more, take_more_set}
@@ -20,7 +20,7 @@ copies_on space both i x within inside same byte = (
   take_more_set space i x within ∙ ap (λ (t : List ℕ). t ++ x ∷ []) same ∙ ap (λ b. take i both ++ b ∷ []) (sym byte) ∙ sym (take_more both i 0 inside),
 )
 
--- where there are as many bytes as there is space for, all the space was filled
+-- if there are as many bytes as there is space for, all the space was filled
 pub copied_all : (n : ℕ) (space both : List ℕ) (k : ℕ) → length space ≡ n → take k space ≡ take n both → n ≤ length both → space ≡ take n both
 copied_all n space both k len e le =
     let all : n ≤ k = omega (arith, ap length e, length-take k space, length-take n both, len, le) in

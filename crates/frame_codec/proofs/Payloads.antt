@@ -114,13 +114,13 @@ length-payload (NoDelta version count) fits = payload_sized (NoDelta version cou
 length-payload (Changes since now count entries) fits = omega (arith, payload_sized (Changes since now count entries))
 length-payload (Refused code) fits = payload_sized (Refused code)
 
--- no payload of another length stands for a frame of this kind
+-- no payload of another length represents a frame of this kind
 pub no_stands : (k : ℕ) (bytes : List ℕ) → (HasLength k bytes → ⊥) → (f : Frame) → Stands k bytes f → ⊥
 no_stands k bytes bad f s = bad (rw (← s.kind, ← s.payload) (length-payload f s.fields))
 
 -- ---- numbers in their places
 
--- a number at the beginning, where the others are known
+-- a number at the beginning, if the others are known
 pub number_first : (n : ℕ) (bytes : List ℕ) → IsBytes bytes → n ≤ length bytes → (x : ℕ) (more : List ℕ) → x ≡ number_in n bytes → more ≡ drop n bytes →
     number_bytes n x ++ more ≡ bytes
 number_first n bytes fits le x more e rest = rw (e, rest) (prefix n bytes fits le)
@@ -197,7 +197,7 @@ pub is_publish : (bytes : List ℕ) → length bytes ≡ 0 → Stands 7 bytes Pu
 unfolding payload_of
 is_publish bytes e = record { kind = refl; payload = sym (nil_from_length bytes e); fields = tt }
 
--- the fields of a welcome, as they stand in its payload
+-- the fields of a welcome, as they are in its payload
 pub record WelcomeFields (bytes : List ℕ) (profile record_len groups count version dimension : ℕ) (seed : List ℕ) : Type 0 where
   pub profile_is : profile ≡ number_in 2 bytes
   pub record_len_is : record_len ≡ number_in 2 (drop 3 bytes)
@@ -249,7 +249,7 @@ is_hint_part bytes fits le version part words small small2 e e2 ew all =
     number_at 1 8 9 bytes fits refl (omega arith) version (number_bytes 4 part ++ word_bytes words) e at9 in
     record { kind = refl; payload = ap (λ (x : List ℕ). get_or bytes 0 0 ∷ x) at1 ∙ byte_first bytes (omega arith); fields = (fits 0, small, small2, all) }
 
--- the fields of a Delta, as they stand in its payload
+-- the fields of a Delta, as they are in its payload
 pub record DeltaFields (bytes : List ℕ) (since now count : ℕ) (rows : RowList) : Type 0 where
   pub since_is : since ≡ number_in 8 bytes
   pub now_is : now ≡ number_in 8 (drop 8 bytes)
@@ -270,7 +270,7 @@ is_delta bytes fits le since now count rows d ss sn sc sd whole all =
     number_at 8 8 16 bytes fits refl (omega arith) now _ d.now_is at16 in
     record { kind = refl; payload = number_first 8 bytes fits (omega arith) since _ d.since_is at8; fields = (ss, sn, sc, sd, whole, all) }
 
--- the fields of changed records, as they stand in the payload
+-- the fields of changed records, as they are in the payload
 pub record ChangesFields (bytes : List ℕ) (since now count : ℕ) (entries : List ℕ) : Type 0 where
   pub since_is : since ≡ number_in 8 bytes
   pub now_is : now ≡ number_in 8 (drop 8 bytes)
@@ -349,14 +349,14 @@ is_refused bytes fits e = record {
 pub rows_divide : (n count : ℕ) → count % (n + 1) ≡ 0 → count ≡ (count / (n + 1)) * (n + 1)
 rows_divide n count zero = omega arith
 
--- words that encode some bytes are whole rows, where their number is a multiple of a row's
+-- words that encode some bytes are whole rows, if their number is a multiple of a row's
 pub whole_rows : (n : ℕ) (words bytes : List ℕ) (count : ℕ) → word_bytes words ≡ bytes → length bytes ≡ 4 * count → count % (n + 1) ≡ 0 →
     HasWholeRows (record { dimension = n; words = words })
 whole_rows n words bytes count e len zero =
     let size : length words ≡ count = omega (arith, length-words words, ap length e) in
     record { count = count / (n + 1); len = size ∙ rows_divide n count zero }
 
--- ---- the payloads of kinds that want memory
+-- ---- the payloads of kinds that need memory
 
 bytes_after : (n : ℕ) (bytes : List ℕ) → IsBytes bytes → All (λ b. b < 2 ^ 8) (drop n bytes)
 bytes_after n bytes fits = All-from_get_or (λ b. b < 2 ^ 8) (drop n bytes) 0 (λ k _. IsBytes-drop n bytes fits k)

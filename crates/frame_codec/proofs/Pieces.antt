@@ -40,7 +40,7 @@ length_faults wide bytes h = (
       h.3 (w.0, a.stands.kind, a.stands.fields, n),
 )
 
--- the kind in a header that was put together, where as many bytes have come as it announces
+-- the kind in a header that was put together, if as many bytes have come as it announces
 kind_in : (bytes header : List ℕ) (len size : ℕ) → len ≤ 5 → take len header ≡ take 5 bytes → 5 ≤ length bytes → get_or header 4 0 ≡ kind_at bytes
 kind_in bytes header len size within taken all =
     let n : length (take len header) ≡ length (take 5 bytes) = ap length taken in
@@ -111,7 +111,7 @@ lacks wide old piece size p r = elim (cases_lt (length old) 5) [
   | inr ge ↦ partial_lacks wide old size p (sound_before wide old piece size ge r)
 ]
 
--- no more bytes than the frame's were put together, and as many where there were enough
+-- no more bytes than the frame's were put together, and as many if there were enough
 within_size : (wide : Bool) (old piece new rest : List ℕ) (size : ℕ) → Fills wide old piece new rest size → length new ≤ size
 within_size wide old piece new rest size f =
     let lt = lacks wide old piece size f.partial f.readable in
@@ -124,7 +124,7 @@ used_up wide old piece new rest size f lt =
     let m : length rest ≡ length piece - (size - length old) = ap length f.rest_is ∙ length-drop (size - length old) piece in
     nil_from_length rest (omega (arith, n, m, length-take (size - length old) piece))
 
--- the header of what was put together, where it is whole
+-- the header of what was put together, if it is whole
 filled_readable : (wide : Bool) (old piece new rest : List ℕ) (size : ℕ) → Fills wide old piece new rest size → 5 ≤ length new → IsReadable wide new size
 filled_readable wide old piece new rest size f ge =
     sound_before wide new rest size ge (subst (λ (x : List ℕ). IsReadable wide x size) (sym (filled_whole wide old piece new rest size f)) f.readable)

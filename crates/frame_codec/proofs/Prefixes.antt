@@ -1,4 +1,4 @@
--- What stands at the beginning of bytes.
+-- What is at the beginning of bytes.
 use Rattle.std.proofs.Common.{◌≡◌, ℕ, ◌+◌, ◌<◌, ◌≤◌, Bool, true, false, ◌&&◌, ◌||◌, List, [], ◌∷◌, ◌++◌, length, get_or, take, drop, refl, sym, ap, subst, ◌∙◌, append_assoc, arith, inl, inr}
 use Rattle.std.proofs.lemmas.Bool.{cases_lt, cases_Bool}
 use Rattle.std.proofs.lemmas.List.{length-append, take_at, drop_at, take-append-drop, length-drop, length-take-le, drop-drop, drop_more, get_or_append_left, take-append-le, get_or_at, get_or-take, drop-take}
@@ -34,7 +34,7 @@ kinds_are (NoDelta version count) = refl
 kinds_are (Changes since now count entries) = refl
 kinds_are (Refused code) = refl
 
--- so every frame may stand in a stream of a wide database
+-- every frame may be in a stream of a wide database
 pub in_all : (f : Frame) → IsFrame f → IsFrameOf true f
 in_all f fits = record { frame = fits; known = kinds_are f }
 
@@ -116,7 +116,7 @@ announced wide bytes f more fits e =
 five : (bytes : List ℕ) → IsBytes bytes → 5 ≤ length bytes → number_bytes 4 (length_at bytes) ++ (kind_at bytes ∷ drop 5 bytes) ≡ bytes
 five bytes fits le = ap (λ (x : List ℕ). number_bytes 4 (length_at bytes) ++ x) (sym (drop_more bytes 4 0 (omega arith))) ∙ prefix 4 bytes fits (omega arith)
 
--- the frame that the first five bytes announce stands at the beginning
+-- the frame that the first five bytes announce is at the beginning
 pub whole_frame : (bytes : List ℕ) (f : Frame) → IsBytes bytes → 5 + length_at bytes ≤ length bytes → length_at bytes ≤ payload_limit →
     Stands (kind_at bytes) (take (length_at bytes) (drop 5 bytes)) f
     → IsFrame f × (bytes ≡ encoding f ++ drop (length_at bytes) (drop 5 bytes))
@@ -192,7 +192,7 @@ partial_lacks wide bytes size p s = elim (cases_lt (length bytes) size) [
   ])
 ]
 
--- what a sound header says of the bytes where the frame is whole
+-- what a sound header says of the bytes if the frame is whole
 pub record Judged (wide : Bool) (bytes : List ℕ) (size : ℕ) : Type 0 where
   pub whole_len : size ≡ 5 + length_at bytes
   pub within : 5 + length_at bytes ≤ length bytes
@@ -234,7 +234,7 @@ sound_ahead wide bytes more size le s =
       known = λ h. (ap (is_kind wide) (kind_ahead bytes more le) ∙ (s.known le).0, omega (arith, len, (s.known le).1));
     }
 
--- and it was so before they came
+-- a header was sound before further bytes came
 pub sound_before : (wide : Bool) (bytes more : List ℕ) (size : ℕ) → 5 ≤ length bytes → IsReadable wide (bytes ++ more) size → IsReadable wide bytes size
 sound_before wide bytes more size le s =
     let len : length_at (bytes ++ more) ≡ length_at bytes = number_ahead 4 bytes more (omega arith) in
@@ -245,8 +245,7 @@ sound_before wide bytes more size le s =
       known = λ h. (ap (is_kind wide) (sym (kind_ahead bytes more le)) ∙ (s.known long).0, omega (arith, len, (s.known long).1));
     }
 
--- a frame that stands at the beginning of bytes with more after them stands in the bytes, where
--- they are long enough
+-- a frame at the beginning of bytes with more after them is in the bytes, if they are long enough
 frame_within : (wide : Bool) (bytes more : List ℕ) → 5 + length_at bytes ≤ length bytes → HasFrame wide (bytes ++ more) → HasFrame wide bytes
 frame_within wide bytes more size h =
     let f : Frame = h.0 in
@@ -261,7 +260,7 @@ frame_within wide bytes more size h =
           ∙ ap (λ (x : List ℕ). x ++ drop (length (encoding f)) bytes) here,
     )
 
--- a fault stays where it stands, whatever comes after
+-- a fault stays where it is, whatever comes after
 pub fault_ahead : (wide : Bool) (fault : ReadFault) (bytes more : List ℕ) → HasFault wide fault bytes → HasFault wide fault (bytes ++ more)
 fault_ahead wide TooLong bytes more h = (omega (arith, length-append bytes more, h.0), omega (arith, number_ahead 4 bytes more h.0, h.1))
 fault_ahead wide UnknownKind bytes more h = (
@@ -279,7 +278,7 @@ fault_ahead wide BadPayload bytes more h = (
 fault_ahead wide Memory bytes more h = h
 fault_ahead wide Failed bytes more h = h
 
--- what makes a reader stop: a fault that stands there, or that memory was refused
+-- what makes a reader stop: a fault that is there, or that memory was refused
 pub fault_stops : (wide : Bool) (fault : ReadFault) (bytes : List ℕ) → HasFault wide fault bytes → StopsAt wide fault bytes
 fault_stops wide TooLong bytes h = h
 fault_stops wide UnknownKind bytes h = h

@@ -84,18 +84,18 @@ announces bytes head q =
       long = omega (arith, n, payload_sized f);
     }
 
--- none where a fault stands
+-- none where a fault is
 pub no_query_of_fault : (fault : ReadFault) (bytes : List ℕ) → HasFault false fault bytes → (head : QueryHead) → HasQuery bytes head → ⊥
 no_query_of_fault fault bytes h head q = fault_of_frame false fault bytes h (announces bytes head q).frame
 
--- none where the bytes are fewer than the first five say, or these say too few
+-- none if the bytes are fewer than the first five say, or these say too few
 pub no_query_of_few : (bytes : List ℕ) (size : ℕ) → IsReadable false bytes size → (14 ≤ size → length bytes < size) → (head : QueryHead) → HasQuery bytes head → ⊥
 no_query_of_few bytes size r few head q =
     let a = announces bytes head q in
     let known = r.known (omega (arith, a.within)) in
     omega (arith, a.within, a.long, known.1, few (omega (arith, a.long, known.1)))
 
--- none where the kind is another one, or no query is so long
+-- none if the kind is another one, or no query is so long
 pub no_query_of_kind : (bytes space : List ℕ) (size : ℕ) → IsReadable false bytes size → space ≡ take 14 bytes →
     (get_or space 4 0 ≡ 5 → IsPayloadLength 5 (size - 5) → ⊥) → (head : QueryHead) → HasQuery bytes head → ⊥
 no_query_of_kind bytes space size r space_is none head q =

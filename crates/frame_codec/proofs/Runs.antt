@@ -36,7 +36,7 @@ pub begins_more : (wide : Bool) (bytes : List ℕ) (fs : List Frame) (rest : Lis
     rest ≡ encoding f ++ more → Begins wide bytes (fs ++ f ∷ []) more
 begins_more wide bytes fs rest f more b fits e = begins_both wide bytes fs (f ∷ []) rest more b (begins_one wide rest f more fits e)
 
--- bytes that come after stand after the rest
+-- bytes that come later are after the rest
 pub begins_ahead : (wide : Bool) (bytes : List ℕ) (fs : List Frame) (rest later : List ℕ) → Begins wide bytes fs rest → Begins wide (bytes ++ later) fs (rest ++ later)
 begins_ahead wide bytes fs rest later b = record { whole = ap (λ (x : List ℕ). x ++ later) b.whole ∙ append_assoc (flat_map encoding fs) rest later; each = b.each }
 
@@ -50,7 +50,7 @@ stops_on wide bytes fs gs rest fault b s = (s.0, begins_both wide bytes fs gs re
 
 -- ---- pieces one after another
 
--- pieces read on what stands before them
+-- pieces, read on from what is before them
 pub reads_pieces : (wide : Bool) (pieces : List (List ℕ)) (old : List ℕ) (frames : List Frame) (rest : List ℕ) → IsPartial wide old → FeedsAll wide old pieces frames rest →
     Reads wide (old ++ joined_pieces pieces) frames rest
 reads_pieces wide [] old frames rest p f = rw (f.0, f.1, append-nil old) record { begins = begins_none wide old; partial = p }

@@ -86,7 +86,7 @@ goes_on_frame wide old piece frames now rest n f mid g a answer more new b =
     rw (append_assoc frames (f ∷ []) more)
     (g answer (f ∷ [] ++ more) new (subst (λ (x : List ℕ). Feeds wide now x answer (f ∷ [] ++ more) new) (take-append-drop n rest) both))
 
--- where a frame was complete and memory for it was refused, the reader stops before it
+-- if a frame was complete and memory for it was refused, the reader stops before it
 pub refused_frame : (wide : Bool) (now : Option (List ℕ)) (rest : List ℕ) (n : ℕ) (f : Frame) (mid : Option (List ℕ)) → Feeds wide now (take n rest) (Ok tt) (f ∷ []) mid →
     Feeds wide now rest (Err Memory) [] None
 refused_frame wide None rest n f mid a = let no : Ok tt ≡ Err Failed = a.0 in absurd cc

@@ -51,7 +51,7 @@ changes_in p =
     let p16 : List ℕ = drop 8 p8 in
     Changes (number_in 8 p) (number_in 8 p8) (number_in 4 p16) (drop 4 p16)
 
--- the frame of a kind and a payload, where there is one
+-- the frame of a kind and a payload, if there is one
 frame_of : ℕ → List ℕ → Frame
 frame_of k p =
     if k == 1 then Load (number_in 2 p) (number_in 2 (drop 2 p)) (get_or (drop 2 (drop 2 p)) 0 0) (drop 1 (drop 2 (drop 2 p)))
@@ -204,7 +204,7 @@ one_reading wide bytes frames others rest end a b last final = same_reading wide
 
 -- ---- frames that are on their way
 
--- no fault stands at the beginning of a frame
+-- no fault is at the beginning of a frame
 pub fault_of_frame : (wide : Bool) (fault : ReadFault) (bytes : List ℕ) → HasFault wide fault bytes → HasFrame wide bytes → ⊥
 fault_of_frame wide TooLong bytes h w = let a = announced wide bytes w.0 w.1 w.2 w.3 in omega (arith, a.len, h.1)
 fault_of_frame wide UnknownKind bytes h w =
@@ -222,7 +222,7 @@ nothing_bad wide BadPayload h = omega (arith, h.0)
 nothing_bad wide Memory h = h
 nothing_bad wide Failed h = h
 
--- no fault stands where frames are on their way
+-- no fault is where frames are on their way
 no_fault_ahead : (wide : Bool) (fault : ReadFault) (rest later : List ℕ) (more : List Frame) → AllByRecursion (IsFrameOf wide) more → rest ++ later ≡ flat_map encoding more →
     HasFault wide fault rest → ⊥
 no_fault_ahead wide fault rest later [] all e h = nothing_bad wide fault (subst (HasFault wide fault) e (fault_ahead wide fault rest later h))

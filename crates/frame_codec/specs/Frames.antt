@@ -109,7 +109,7 @@ encoding f = number_bytes 4 (length (payload_of f)) ++ (kind_of f ∷ payload_of
 abbrev pub payload_limit : ℕ
 payload_limit = 16777216
 
--- a frame that may stand in a stream
+-- a frame that may be in a stream
 pub record IsFrame (f : Frame) : Type 0 where
   pub fields : HasFields f
   pub short : length (payload_of f) ≤ payload_limit
@@ -128,7 +128,7 @@ IsPayloadLength k n = (f : Frame) × (kind_of f ≡ k) × HasFields f × (length
 abbrev pub IsPayload : ℕ → List ℕ → Type 0
 IsPayload k bytes = (f : Frame) × Stands k bytes f
 
--- what a kind and a payload are read as: the frame that has them, where there is one
+-- what a kind and a payload are read as: the frame that has them, if there is one
 abbrev pub ReadsAs : ℕ → List ℕ → Option Frame → Type 0
 ReadsAs k bytes None = (f : Frame) → Stands k bytes f → ⊥
 ReadsAs k bytes (Some f) = Stands k bytes f

@@ -5,28 +5,28 @@ use Rattle.frame_codec.specs.declared.reader.ReadFault.{ReadFault}
 use Rattle.frame_codec.specs.declared.reader.ReadFault.TheVariants.{Memory}
 use Rattle.frame_codec.specs.Streams.{Feeds, HasFrame, HasFault}
 
--- a fault stands only where no frame does
+-- a fault is only where no frame is
 abbrev pub FaultsExcludeFrames : Type 0
 FaultsExcludeFrames = (wide : Bool) (fault : ReadFault) (bytes : List ℕ) → HasFault wide fault bytes → HasFrame wide bytes → ⊥
 
--- no two faults stand in one place
+-- no two faults are in one place
 abbrev pub OneFault : Type 0
 OneFault = (wide : Bool) (fault other : ReadFault) (bytes : List ℕ) → HasFault wide fault bytes → HasFault wide other bytes → fault ≡ other
 
 -- The unfinished bytes and the piece decide the answer, the frames and the bytes that are
--- unfinished then, where memory isn't refused.
+-- unfinished then, unless memory is refused.
 abbrev pub FeedsDecide : Type 0
 FeedsDecide = (wide : Bool) (old : Option (List ℕ)) (piece : List ℕ) (answer other : Result (Unit {0}) ReadFault) (frames others : List Frame) (new end : Option (List ℕ)) →
     Feeds wide old piece answer frames new → Feeds wide old piece other others end → answer ≢ Err Memory
     → other ≢ Err Memory → (answer ≡ other) × (frames ≡ others) × (new ≡ end)
 
--- where memory may be refused to one of them, its frames are the first of the other's
+-- if memory may be refused to one of them, its frames are the first of the other's
 abbrev pub FeedsBegin : Type 0
 FeedsBegin = (wide : Bool) (old : Option (List ℕ)) (piece : List ℕ) (answer other : Result (Unit {0}) ReadFault) (frames others : List Frame) (new end : Option (List ℕ)) →
     Feeds wide old piece answer frames new → Feeds wide old piece other others end → answer ≢ Err Memory
     → (more : List Frame) × (frames ≡ others ++ more)
 
--- where memory may be refused to both, the frames of one of them are the first of the other's
+-- if memory may be refused to both, the frames of one of them are the first of the other's
 abbrev pub FeedsAgree : Type 0
 FeedsAgree = (wide : Bool) (old : Option (List ℕ)) (piece : List ℕ) (answer other : Result (Unit {0}) ReadFault) (frames others : List Frame) (new end : Option (List ℕ)) →
     Feeds wide old piece answer frames new → Feeds wide old piece other others end

@@ -1,5 +1,5 @@
--- What a stream of bytes says: its frames, and what stands after them. A stream of a wide database
--- has two kinds of frames more.
+-- What a stream of bytes says: its frames, and what comes after them. A stream of a wide database
+-- has two more kinds of frames.
 use Rattle.std.specs.Prelude.{◌≡◌, ◌<◌, ◌≤◌, ◌+◌, ◌==◌, ℕ, List, [], ◌∷◌, ◌++◌, length, slice_index, take, option_to_list, Option, Some, None, IfSome, IfNone, Result, Ok, Err, ◌||◌, ◌&&◌, Bool, true, false}
 use Rattle.std.specs.List.{flat_map, AllByRecursion}
 use Rattle.frame_codec.specs.declared.frame.Frame.{Frame}
@@ -21,7 +21,7 @@ is_ordinary_kind k =
 abbrev pub is_kind : Bool → ℕ → Bool
 is_kind wide k = is_ordinary_kind k || (wide && ((k == 10) || (k == 138)))
 
--- a frame that may stand in a stream, wide or not
+-- a frame that may be in a stream, wide or not
 pub record IsFrameOf (wide : Bool) (f : Frame) : Type 0 where
   pub frame : IsFrame f
   pub known : is_kind wide (kind_of f) ≡ true
@@ -38,8 +38,8 @@ kind_at bytes = slice_index bytes 4
 abbrev pub HasFrame : Bool → List ℕ → Type 0
 HasFrame wide bytes = (f : Frame) × (more : List ℕ) × IsFrameOf wide f × (bytes ≡ encoding f ++ more)
 
--- A fault stands in the place of a frame: the bytes by which it is judged have come, no earlier
--- fault stands there, and what makes it is so.
+-- A fault is in the place of a frame: the bytes by which it is judged have come, no earlier fault
+-- is there, and its cause holds.
 abbrev pub HasFault : Bool → ReadFault → List ℕ → Type 0
 HasFault wide TooLong bytes = (4 ≤ length bytes) × (payload_limit < length_at bytes)
 HasFault wide UnknownKind bytes = (5 ≤ length bytes) × (length_at bytes ≤ payload_limit) × (is_kind wide (kind_at bytes) ≡ false)
@@ -55,8 +55,8 @@ HasBadLength wide bytes =
     (5 + length_at bytes ≤ length bytes) × (length_at bytes ≤ payload_limit) × (is_kind wide (kind_at bytes) ≡ true)
     × (IsPayloadLength (kind_at bytes) (length_at bytes) → ⊥)
 
--- What makes a reader stop with a fault: it stands there. Where memory was refused, none stands
--- there that the length and the kind make.
+-- What makes a reader stop with a fault: the fault is there. If memory was refused, none is there
+-- that the length and the kind make.
 abbrev pub StopsAt : Bool → ReadFault → List ℕ → Type 0
 StopsAt wide TooLong bytes = HasFault wide TooLong bytes
 StopsAt wide UnknownKind bytes = HasFault wide UnknownKind bytes
@@ -91,7 +91,7 @@ Feeds wide (Some old) piece (Ok done) frames new = (rest : List ℕ) × Reads wi
 Feeds wide (Some old) piece (Err fault) frames new = Stops wide (old ++ piece) frames fault × (new ≡ None)
 
 -- The first frame that a piece completes: the bytes taken are fed, they are those up to that
--- frame's end, of which it needs one at least, or the whole piece where it completes none.
+-- frame's end, of which it needs one at least, or the whole piece if it completes none.
 pub record TakesFrame (wide : Bool) (old : Option (List ℕ)) (piece : List ℕ) (taken : FrameRead) (new : Option (List ℕ)) : Type 0 where
   pub within : taken.count ≤ length piece
   pub fed : Feeds wide old (take taken.count piece) (Ok tt) (option_to_list taken.frame) new
@@ -127,7 +127,7 @@ abbrev pub HasQueryNext : Option (List ℕ) → List ℕ → QueryHead → Type 
 HasQueryNext None piece head = ⊥
 HasQueryNext (Some kept) piece head = HasQuery (kept ++ piece) head
 
--- What is seen of the first frame that a piece completes, where nothing is fed: the frame, if it is
+-- What is seen of the first frame that a piece completes, with nothing fed: the frame, if it is
 -- whole then, or the fault in its place.
 abbrev pub SeesFrame : Bool → Option (List ℕ) → List ℕ → Result (Option Frame) ReadFault → Type 0
 SeesFrame wide None piece answer = answer ≡ Err Failed
@@ -147,8 +147,8 @@ FeedsAll wide old (piece ∷ pieces) frames rest =
 abbrev pub joined_pieces : List (List ℕ) → List ℕ
 joined_pieces pieces = flat_map (λ piece. piece) pieces
 
--- What stands after a piece of frames that were sent, where later bytes are still on their way: the
--- rest and these are the other frames. Else memory was refused.
+-- What is left after a piece of frames that were sent, when later bytes are still on their way: the
+-- rest and these are the other frames. Otherwise memory was refused.
 abbrev pub Arrives : Result (Unit {0}) ReadFault → Option (List ℕ) → List ℕ → List Frame → Type 0
 Arrives (Ok done) None later more = ⊥
 Arrives (Ok done) (Some rest) later more = rest ++ later ≡ flat_map encoding more

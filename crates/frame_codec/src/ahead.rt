@@ -1,4 +1,4 @@
-//! A look at the first frame of bytes that stand in two places, one after the other.
+//! A look at the first frame of bytes in two slices, one after the other.
 
 ghost use Rattle.std.specs.Prelude.{◌++◌, IfSome, IfNone};
 ghost use Rattle.frame_codec.specs.Streams.{HasQuery};
@@ -25,7 +25,7 @@ pub struct QueryHead {
     pub count: usize,
 }
 
-/// The head of the query that stands at the beginning, if a whole one does. This takes no memory.
+/// The head of the query at the beginning, if a whole one is there. Takes no memory.
 pub fn query_head(first: &[u8], rest: &[u8]) -> Option<QueryHead>
     ensures some { IfSome result (HasQuery (first.now ++ rest.now)) }
     ensures none { IfNone result ((head : QueryHead) → HasQuery (first.now ++ rest.now) head → ⊥) }

@@ -22,7 +22,7 @@ impl Model for Bytes {
 }
 
 impl Bytes {
-    /// These bytes.
+    /// The given bytes.
     pub fn new(items: Vec<u8>) -> Bytes
         ensures items { result ≡ items.items }
         ensures fields { All (λ b. b < 2 ^ 8) result }
@@ -64,7 +64,7 @@ impl Model for Words {
 }
 
 impl Words {
-    /// These words.
+    /// The given words.
     pub fn new(items: Vec<u32>) -> Words
         ensures items { result ≡ items.items }
         ensures fields { All (λ w. w < 2 ^ 32) result }
@@ -109,7 +109,7 @@ impl Model for Rows {
 }
 
 impl Rows {
-    /// These rows, each of its number and `dimension` words.
+    /// The given rows, each of its number and `dimension` words.
     pub fn new(dimension: u16, words: Words) -> Rows
         requires { HasWholeRows (record { dimension = dimension; words = words }) }
         ensures { result ≡ record { dimension = dimension; words = words } }

@@ -20,7 +20,7 @@ pub fn one_number()
         little_number n (little_bytes n x ++ more) ≡ x }
 {}
 
-/// How long a frame's payload is, and that five bytes stand before it.
+/// How long a frame's payload is, and that five bytes are before it.
 pub fn length_of_encoding()
     ensures payload { (f : Frame) → length (payload_of f) ≡ payload_size f }
     ensures encoding { (f : Frame) → length (encoding f) ≡ 5 + payload_size f }
@@ -64,13 +64,13 @@ pub fn reads_what_was_sent()
         Arrives answer new later more }
 {}
 
-/// In one place stands a frame, or one fault, or neither.
+/// One place has a frame, or one fault, or neither.
 pub fn one_fault()
     ensures frames { FaultsExcludeFrames }
     ensures faults { OneFault }
 {}
 
-/// What a feed answers, the frames that it gives and what it leaves unfinished are decided by the
+/// What a feed returns, the frames that it gives and what it leaves unfinished are decided by the
 /// bytes that were unfinished and the piece, unless memory is refused; then the frames are the
 /// first of those that it would have given.
 pub fn feeds_decide()

@@ -1,7 +1,7 @@
 //! Frames on a stream of bytes.
 //!
-//! A frame is the length of its payload (four bytes, the lowest first), its kind (one byte) and its
-//! payload, of at most 16,777,216 bytes. All word_bytes stand with their lowest byte first.
+//! A frame is the length of its payload (four bytes), its kind (one byte) and its payload, of at
+//! most 16,777,216 bytes. All numbers are little-endian: their lowest byte comes first.
 //!
 //! Its tests are in `tests_frame::frames` and `tests/long/tests_frame`.
 #![tactic(auto)]

@@ -325,8 +325,8 @@ pub fn is_payload_len(kind: u8, len: usize) -> bool
     }
 }
 
-/// The frame of this kind with this payload, if there is one. Memory is asked for only where there
-/// is.
+/// The frame of this kind with this payload, if there is one. Memory is asked for only if there is
+/// one.
 pub fn decode(alloc: Global, kind: u8, payload: &[u8]) -> Result<Option<Frame>, AllocError>
     ensures reads { IfOk result (ReadsAs kind payload.now) }
     ensures memory { OnErr result (IsPayload kind payload.now) }

@@ -28,7 +28,7 @@ fn is_known_kind(wide: bool, kind: u8) -> bool
     matches!(kind, 0x01..=0x09 | 0x82..=0x88 | 0x8f) || (wide && matches!(kind, 0x0a | 0x8a))
 }
 
-/// The whole length of the frame at the beginning, or of a header where that isn't whole.
+/// The whole length of the frame at the beginning, or of a header if that isn't whole.
 pub fn frame_len(wide: bool, bytes: &[u8]) -> Result<usize, ReadFault>
     ensures ok { IfOk result (λ size. IsReadable wide bytes.now size) }
     ensures err { IfErr result (λ fault. HasFault wide fault bytes.now) }
@@ -49,8 +49,8 @@ pub fn frame_len(wide: bool, bytes: &[u8]) -> Result<usize, ReadFault>
     Ok(HEADER_LEN + len)
 }
 
-/// The same of bytes that stand in two places, one after the other. Where the whole frame has come,
-/// its length is judged by its kind, too. All this takes no memory.
+/// The same for bytes in two slices, one after the other. If the whole frame has come, its length
+/// is judged by its kind, too. Takes no memory.
 pub fn split_frame_len(wide: bool, first: &[u8], rest: &[u8]) -> Result<usize, ReadFault>
     ensures ok { IfOk result (λ size. IsReadable wide (first.now ++ rest.now) size) }
     ensures judged { OnOk result (HasBadLength wide (first.now ++ rest.now) → ⊥) }
@@ -67,8 +67,7 @@ pub fn split_frame_len(wide: bool, first: &[u8], rest: &[u8]) -> Result<usize, R
     Ok(size)
 }
 
-/// Whether bytes that stand in two places, one after the other, begin with the frame Publish. This
-/// takes no memory.
+/// Whether bytes in two slices, one after the other, begin with the frame Publish. Takes no memory.
 pub fn begins_with_publish(first: &[u8], rest: &[u8]) -> bool
     ensures { IsTrue result ↔ HasPublishNext (Some first.now) rest.now }
 {
@@ -105,8 +104,8 @@ pub fn fill_front(space: &mut [u8], first: &[u8], rest: &[u8]) -> usize
     len
 }
 
-/// The frame at the beginning and the bytes after it, if it is whole. `Memory` comes only where a
-/// frame stands there.
+/// The frame at the beginning and the bytes after it, if it is whole. `Memory` comes only if a
+/// frame is there.
 pub fn frame_at<'a>(
     alloc: Global,
     wide: bool,

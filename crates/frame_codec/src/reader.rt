@@ -20,14 +20,14 @@ use thiserror::Error;
 /// Why a reader stopped.
 #[derive(Clone, Copy, Debug, PartialEq, Eq, Error)]
 pub enum ReadFault {
-    /// A payload of more than 16,777,216 bytes. It comes with the fourth byte of the frame.
+    /// A payload of more than 16,777,216 bytes, judged at the fourth byte of the frame.
     #[error("a payload of more than 16777216 bytes")]
     TooLong,
-    /// A kind that there is not; 0a and 8a are kinds of a wide database alone. It comes with the
-    /// fifth byte of the frame.
+    /// An unknown kind, judged at the fifth byte of the frame; 0a and 8a are kinds of a wide
+    /// database alone.
     #[error("an unknown kind of frame")]
     UnknownKind,
-    /// A payload that no frame of its kind has. It comes with the last byte of the payload.
+    /// A payload that no frame of its kind has, judged at the last byte of the payload.
     #[error("a bad payload")]
     BadPayload,
     /// Memory was refused.
@@ -67,9 +67,9 @@ pub struct FrameRead {
     pub frame: Option<Frame>,
 }
 
-/// The bytes of an unfinished frame, or that the stream has failed: then it keeps none, and no room
-/// for any. Whether the stream is one of a wide database, which has two kinds of frames more, is
-/// said at each call.
+/// The bytes of an unfinished frame, or the fact that the stream has failed: then no bytes are
+/// kept, and no room for any. Whether the stream is one of a wide database, which has two more
+/// kinds of frames, is said at each call.
 #[derive(Drop)]
 pub struct Reader {
     alloc: Global,
@@ -109,15 +109,15 @@ impl Reader {
         !self.failed && self.pending.is_empty()
     }
 
-    /// How many bytes of an unfinished frame it keeps.
+    /// How many bytes of an unfinished frame are kept.
     pub fn unfinished_len(&self) -> usize
         ensures { result ≡ unfinished_size self.now }
     {
         if self.failed { 0 } else { self.pending.len() }
     }
 
-    /// Whether what it keeps of an unfinished frame, and then a piece, begin with the frame
-    /// Publish: so that feeding the piece gives this frame first. This takes no memory, and changes
+    /// Whether the kept bytes of an unfinished frame, followed by a piece, begin with the frame
+    /// Publish, so that feeding the piece gives this frame first. Takes no memory, and changes
     /// nothing.
     pub fn publishes_next(&self, piece: &[u8]) -> bool
         ensures { IsTrue result ↔ HasPublishNext self.now piece.now }
@@ -125,9 +125,9 @@ impl Reader {
         !self.failed && begins_with_publish(&self.pending, piece)
     }
 
-    /// What the next frame says before its words, if what it keeps of an unfinished frame, and then
-    /// a piece, begin with a whole query: so that feeding the piece gives this query first, unless
-    /// memory is refused. This takes no memory, and changes nothing.
+    /// What the next frame says before its words, if the kept bytes of an unfinished frame,
+    /// followed by a piece, begin with a whole query, so that feeding the piece gives this query
+    /// first, unless memory is refused. Takes no memory, and changes nothing.
     pub fn query_next(&self, piece: &[u8]) -> Option<QueryHead>
         ensures some { IfSome result (HasQueryNext self.now piece.now) }
         ensures none { IfNone result
@@ -139,12 +139,12 @@ impl Reader {
         query_head(&self.pending, piece)
     }
 
-    /// The frame that feeding the piece would give first, if one is whole then. This changes
-    /// nothing, and takes memory for the frame and for its bytes.
+    /// The frame that feeding the piece would give first, if one is whole then. Changes nothing,
+    /// and takes memory for the frame and for its bytes.
     ///
     /// # Errors
     ///
-    /// The fault that feeding the piece would answer in the place of the first frame.
+    /// The fault that feeding the piece would return in the place of the first frame.
     pub fn next_frame(&self, wide: bool, piece: &[u8]) -> Result<Option<Frame>, ReadFault>
         ensures { SeesFrame wide self.now piece.now result }
     {
@@ -159,10 +159,10 @@ impl Reader {
     ///
     /// A fault comes with the piece that has the byte by which it is judged. The whole frames
     /// before it are added, what had come of the bad one is given up with its room, and every later
-    /// feed answers `Failed`. At `Memory` too the frames added are whole frames of the stream, in
-    /// order, and no `TooLong` or `UnknownKind` stands after them, nor a whole payload of a length
+    /// feed returns `Failed`. At `Memory` too the frames added are whole frames of the stream, in
+    /// order, and no `TooLong` or `UnknownKind` comes after them, nor a whole payload of a length
     /// that no frame of its kind has: these are judged before memory is taken. Only the rows of a
-    /// Delta can't be judged, where memory to put its payload together is refused.
+    /// Delta can't be judged, if memory to put its payload together is refused.
     pub fn feed(&mut self, wide: bool, piece: &[u8], out: &mut Vec<Frame>) -> Result<(), ReadFault>
         ensures { (frames : List Frame) × (out.new.items ≡ out.old.items ++ frames) ×
             Feeds wide self.old piece.now result frames self.new }
@@ -183,13 +183,13 @@ impl Reader {
     }
 
     /// Takes the next piece of the stream up to the end of the first frame that is whole then, and
-    /// returns that frame and how many bytes were taken. Where no frame is whole the whole piece
-    /// was taken.
+    /// returns that frame and how many bytes were taken. If no frame is whole, the whole piece was
+    /// taken.
     ///
     /// # Errors
     ///
-    /// As [`Reader::feed`], where the fault comes in the place of the first frame. What had come of
-    /// that one is given up with its room, and every later feed answers `Failed`.
+    /// As [`Reader::feed`], with the fault in the place of the first frame. What had come of that
+    /// one is given up with its room, and every later feed returns `Failed`.
     pub fn feed_frame(&mut self, wide: bool, piece: &[u8]) -> Result<FrameRead, ReadFault>
         ensures { FeedsFrame wide self.old piece.now result self.new }
     {
@@ -251,7 +251,7 @@ fn advance(
     }
 }
 
-/// Reads a piece where no frame is unfinished.
+/// Reads a piece when no frame is unfinished.
 fn start(
     alloc: Global,
     wide: bool,
@@ -302,8 +302,8 @@ fn see_frame(
     }
 }
 
-/// Gives an unfinished frame what it lacks. Where it is whole then, its room is given back, and it
-/// is answered with what is left of the piece.
+/// Gives an unfinished frame what it lacks. If it is whole then, its room is given back, and it is
+/// returned with what is left of the piece.
 fn finish<'a>(
     alloc: Global,
     wide: bool,
@@ -330,7 +330,7 @@ fn finish<'a>(
 
 /// Gives an unfinished frame what it lacks: its header and its payload. Returns the rest of the
 /// piece. The header is judged before memory is taken, and so is the length of a payload that is
-/// whole now, so that a fault of these is never answered as `Memory`.
+/// whole now, so that a fault of these is never returned as `Memory`.
 fn fill<'a>(wide: bool, pending: &mut Vec<u8>, piece: &'a [u8]) -> Result<&'a [u8], ReadFault>
     requires { IsPartial true pending.old.items }
     ensures whole { IfOk result (λ rest. pending.new.items ++ rest.now

@@ -42,7 +42,7 @@ fn kind_number(frame: &Frame) -> u8
 }
 
 impl Frame {
-    /// How many bytes the payload has. A frame can be written where these are at most 16,777,216.
+    /// How many bytes the payload has. A frame can be written if these are at most 16,777,216.
     pub fn payload_len(&self) -> usize
         ensures { result ≡ payload_size self.now }
     {
@@ -155,7 +155,7 @@ fn put_reply(out: &mut Vec<u8>, frame: &Frame)
     }
 }
 
-/// The payload of a welcome. It is given no other frame.
+/// The payload of a welcome, the only frame that it is given.
 #[tactic(auto, using(crate::proofs::NumberBytes::lengths), unfolding(crate::specs::Frames::payload_of))]
 fn put_welcome_fields(out: &mut Vec<u8>, frame: &Frame)
     requires welcome { kind_of frame.now ≡ 130 }

@@ -25,7 +25,7 @@ row_of_digit l i r e =
     let n : ℕ = digits_per_record l in
     sym (div-add-mod' r n) ∙ ap (λ g. g * n + r % n) e
 
--- and a row of a digit is in that place
+-- a row of a digit is in that place
 pub place_of_digit : (l : Shape) (i d : ℕ) → d < digits_per_record l → (first_row l i + d) / digits_per_record l ≡ i % l.groups
 place_of_digit l i d low = div-mul-add (i % l.groups) (digits_per_record l) d low
 
@@ -35,7 +35,7 @@ place_of_row l i r low high =
     let at : r ≡ first_row l i + d = omega arith in
     ap (λ y. y / digits_per_record l) at ∙ place_of_digit l i d (omega arith)
 
--- row r of a product, where the left matrix has the same row
+-- row r of a product, if the left matrix has the same row
 same_product : (d e a : WordMatrix) (r k : ℕ) → d.rows ≡ e.rows → d.cols ≡ e.cols → e.cols ≤ a.rows → r < e.rows → k < a.cols →
     ((t : ℕ) → t < e.cols → entry d r t ≡ entry e r t) → entry (product d a) r k ≡ entry (product e a) r k
 same_product d e a r k rows cols inner p q same =

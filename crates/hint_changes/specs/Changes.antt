@@ -102,7 +102,7 @@ changes_at before after [] = []
 changes_at before after (i ∷ more) =
     unless_same (pointwise nat_eq (record_at before i) (record_at after i)) (change_of before after i) (changes_at before after more)
 
--- the changes from one list of records to another that is as long: of each record that differs,
+-- the changes from one list of records to another of equal length: of each record that differs,
 -- ascending
 abbrev pub changes_between : List (List ℕ) → List (List ℕ) → List ChangedRecord
 changes_between before after = changes_at before after (range_with_len 0 (length after))

@@ -1,4 +1,4 @@
--- Changes as they stand in bytes, one entry after another.
+-- Changes, encoded in bytes, one entry after another.
 use Rattle.std.specs.Prelude.{◌≡◌, ℕ, ◌+◌, ◌*◌, ◌/◌, ◌%◌, ◌<◌, List, length, take, drop}
 use Rattle.byteorder.specs.Endian.{little_number}
 use Rattle.matrix_u32.specs.Sum.{list_of}

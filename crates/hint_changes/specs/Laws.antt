@@ -26,7 +26,7 @@ abbrev pub ChangesAreMadeOneByOne : Type 0
 ChangesAreMadeOneByOne = (l : Shape) (a1 hint : WordMatrix) (c : ChangedRecord) (more : List ChangedRecord) →
     moved l a1 (c ∷ more) hint ≡ moved l a1 more (moved l a1 (c ∷ []) hint)
 
--- the changes between two lists of records that are as long lead from the one to the other
+-- the changes between two lists of records of equal length lead from the one to the other
 abbrev pub ChangesBetweenLead : Type 0
 ChangesBetweenLead = (l : Shape) (before after : List (List ℕ)) → length before ≡ length after → length after ≤ l.count →
     LeadTo l (changes_between before after) before after

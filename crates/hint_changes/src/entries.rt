@@ -1,4 +1,4 @@
-//! Changes as they stand in bytes.
+//! Changes, encoded in bytes.
 
 ghost use Rattle.std.specs.Prelude.{◌≡◌, ◌↔◌, ℕ, ◌+◌, ◌*◌, ◌/◌, ◌%◌, ◌<◌, ◌≤◌, IsTrue, length};
 ghost use Rattle.std.specs.Prelude.{take, drop};
@@ -58,7 +58,7 @@ pub fn are_entries(layout: &Layout, bytes: &[u8]) -> bool
 
 /// Moves a SimplePIR hint by the changes in entries, one after another, under the first public
 /// matrix of a seed. Each row of this matrix is made once for all changes in its column, since
-/// entries are ascending. It takes no memory.
+/// entries are ascending. Takes no memory.
 pub fn move_by_entries<K: Kernel>(
     kernel: K,
     layout: &Layout,

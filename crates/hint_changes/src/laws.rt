@@ -11,8 +11,8 @@ pub fn moved_hint_is_made_from_scratch()
     ensures { MovedHintIsMadeFromScratch }
 {}
 
-/// The hint of some records, moved by changes that lead to others, in whatever order these stand,
-/// is the one that is made from scratch of the others.
+/// The hint of some records, moved in any order by changes that lead to others, is the one that is
+/// made from scratch of the others.
 pub fn changes_move_the_hint()
     ensures { ChangesMoveTheHint }
 {}
@@ -22,14 +22,13 @@ pub fn changes_are_made_one_by_one()
     ensures { ChangesAreMadeOneByOne }
 {}
 
-/// The changes between two lists of records that are as long, of each record that differs, lead
-/// from the one to the other.
+/// The changes between two lists of records of equal length, of each record that differs, lead from
+/// the one to the other.
 pub fn changes_between_lead()
     ensures { ChangesBetweenLead }
 {}
 
-/// A change of a record leaves the rows of the records that stand in another place of their
-/// columns.
+/// A change of a record leaves the rows of the records in another place of their columns.
 pub fn other_places_stay()
     ensures { OtherPlacesStay }
 {}

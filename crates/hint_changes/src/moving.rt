@@ -14,7 +14,7 @@ use matrix_u32::{Kernel, Matrix};
 
 /// Moves a SimplePIR hint by record `index`, which had bytes `old` in the digits and has `new`,
 /// under the first public matrix of a seed, of which `public` becomes the row of the record's
-/// column. It takes no memory.
+/// column. Takes no memory.
 ///
 /// Each row of the hint in which a digit of the record changed has the change of that digit times
 /// this row added; the others stay.
@@ -45,8 +45,8 @@ pub fn move_record<K: Kernel>(
 }
 
 /// Moves only the rows of a hint in which the record has its digits, as many as it has digits: what
-/// [`move_record`] would make of them. A client that keeps its hint in a file moves those rows
-/// alone that it reads.
+/// [`move_record`] would make of them. A client that keeps its hint in a file moves only the rows
+/// that it reads.
 pub fn move_record_rows<K: Kernel>(
     kernel: K,
     layout: &Layout,

@@ -43,7 +43,7 @@ impl PublicRow {
         })
     }
 
-    /// Makes it the row of another column, unless it is the same. It takes no memory.
+    /// Makes it the row of another column, unless it is the same. Takes no memory.
     pub fn turn_to(&mut self, column: usize)
         requires { column < 32768 }
         ensures { self.new ≡ record self.old { column = column } }

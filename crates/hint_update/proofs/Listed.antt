@@ -81,7 +81,7 @@ listed_sum (suc c) (suc n) at g up inside none =
           omega (arith, rest, last)
     ]
 
--- o m + (v + c) m is v m modulo 2 ^ 32, where o + c is 2 ^ 32
+-- o m + (v + c) m is v m modulo 2 ^ 32, if o + c is 2 ^ 32
 replaced : (o v m : ℕ) → o ≤ 2 ^ 32 → (o * m + (v + (2 ^ 32 - o)) * m) % 2 ^ 32 ≡ v * m % 2 ^ 32
 replaced o v m small =
     let whole : (2 ^ 32 - o + o) * m ≡ 2 ^ 32 * m = ap (λ t. t * m) (omega arith) in

@@ -47,7 +47,7 @@ all_give_none n m e g a f u none =
     ]) in
     ap (λ x. x % 2 ^ 32) both ∙ zero ∙ ap (λ x. x % 2 ^ 32) (sum_zero n)
 
--- what row 0 gives with a list, where its weight is that of -1
+-- what row 0 gives with a list, if its weight is that of -1
 pub lowest_follows : (n m : ℕ) (e : ℕ → ℕ → ℕ) (g a f : ℕ → ℕ) (u : ℕ) → g 0 ≡ 2 ^ 32 - 1 →
     ((k : ℕ) → k < n → ((sum_below (1 + m) (λ t. g t * e t k) + u * f k) % 2 ^ 32 ≡ 0) ⊎ (a k ≡ 0)) →
     (sum_below m (λ s. g (1 + s) * total n e a (1 + s)) + u * sum_below n (λ k. f k * a k)) % 2 ^ 32 ≡ total n e a 0 % 2 ^ 32
@@ -93,7 +93,7 @@ combined_is zeros common public wide long clear q l =
     let new = plus_rows-index zeros (length common) (λ k. slice_index common k) public 0 q (omega (arith, l, wide)) in
     omega (arith, same, zero, new)
 
--- ---- where the digits of words stand
+-- ---- where the digits of words are
 -- a word has some digits
 pub digits_some : (w : ℕ) → 6 ≤ w → w ≤ 10 → 1 < split_count w
 unfolding split_count

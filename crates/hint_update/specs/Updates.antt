@@ -7,7 +7,7 @@ use Rattle.matrix_u32.specs.Matrix.{WordMatrix, IsWhole, entry, row, matrix_of, 
 use Rattle.lane_kernels.specs.Digit.{digit, split_count}
 use Rattle.double_scheme.specs.Double.{server_hint_of, client_hint_of}
 
--- of every matrix of digits that has `old` in the place: where the hint was made from it before, it
+-- for every matrix of digits that has `old` in the place: if the hint was made from it before, it
 -- is now made from the matrix with `new` in the place
 abbrev pub FollowsDigit : WordMatrix → WordMatrix → WordMatrix → ℕ → ℕ → ℕ → ℕ → Type 0
 FollowsDigit before after a1 row col old new =
@@ -38,7 +38,7 @@ pub record AreHintsOf (w : ℕ) (d a1 a2 server_hint client_hint : WordMatrix) :
   pub server : server_hint ≡ server_hint_of w d a1
   pub client : client_hint ≡ client_hint_of (server_hint_of w d a1) a2
 
--- of every matrix of digits: where both hints were made from it before, they are now made from the
+-- for every matrix of digits: if both hints were made from it before, they are now made from the
 -- matrix with other digits in row i, whatever these are, if `words` are row i of its product with
 -- the public matrix
 abbrev pub FollowsRow : ℕ → WordMatrix → WordMatrix → WordMatrix → WordMatrix → WordMatrix → ℕ → List ℕ → Type 0
@@ -57,8 +57,8 @@ pub record AreRowsBelow (n : ℕ) (listed : List ℕ) : Type 0 where
 abbrev pub IsUnlisted : List ℕ → ℕ → Type 0
 IsUnlisted listed i = (k : ℕ) → k < length listed → slice_index listed k ≢ i
 
--- the server's hint before and after the listed rows of a hint come into it: the digits of each
--- stand in the column of its number
+-- the server's hint before and after the listed rows of a hint come into it: the digits of each are
+-- in the column of its number
 pub record TakesRows (w : ℕ) (hint old new : WordMatrix) (listed : List ℕ) : Type 0 where
   pub rows : new.rows ≡ old.rows
   pub cols : new.cols ≡ old.cols
@@ -88,15 +88,16 @@ pub record IsListedChange (hint a1 old new : WordMatrix) (listed : List ℕ) : T
   pub changed : (k : ℕ) → k < length listed → row hint (slice_index listed k) ≡ row (product new a1) (slice_index listed k)
   pub others : (i : ℕ) → i < new.rows → IsUnlisted listed i → row new i ≡ row old i
 
--- of every two such matrices: where both hints were made from the old one, they are now made from
--- the new one
+-- for every two such matrices: if both hints were made from the old one, they are now made from the
+-- new one
 abbrev pub FollowsListed : ℕ → WordMatrix → WordMatrix → WordMatrix → WordMatrix → WordMatrix → WordMatrix → List ℕ → Type 0
 FollowsListed w hint a2 server_before server_after client_before client_after listed =
     (old new a1 : WordMatrix) → IsListedChange hint a1 old new listed →
     AreHintsOf w old a1 a2 server_before client_before → AreHintsOf w new a1 a2 server_after client_after
 
--- ---- in blocks rows of the server's hint, `count` of them from row `first` on, before and after
--- the digits of listed rows come into them
+-- ---- in blocks
+-- rows of the server's hint, `count` of them from row `first` on, before and after the digits of
+-- listed rows come into them
 pub record TakesBlock (w : ℕ) (hint old new : WordMatrix) (listed : List ℕ) (first count : ℕ) : Type 0 where
   pub rows : new.rows ≡ old.rows
   pub cols : new.cols ≡ old.cols

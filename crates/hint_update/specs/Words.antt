@@ -1,4 +1,4 @@
--- Changed rows that are taken by whole words: the digits of a word stand below one another, the
+-- Changed rows that are taken by whole words: the digits of a word are below one another, the
 -- lowest first.
 use Rattle.std.specs.Prelude.{◌≡◌, ◌≢◌, ◌⊎◌, ℕ, ◌+◌, ◌-◌, ◌*◌, ◌/◌, ◌%◌, ◌^◌, ◌<◌, ◌≤◌, List, length, slice_index, min, nat_lt, if◌then◌else◌}
 use Rattle.std.specs.Int.{trailing_zeros, w32}
@@ -36,9 +36,8 @@ HasCombined public room =
     (q : ℕ) → q < public.cols →
     slice_index room.combined.items q ≡ sum_below public.rows (λ k. slice_index room.common.items k * entry public k q) % 2 ^ 32
 
--- a word that changes by a multiple of a list: the changes of its digits, which stand from row i
--- on, each times its negative weight, and the factor times the list give 0, in each of n listed
--- rows
+-- a word that changes by a multiple of a list: the changes of its digits, which begin in row i,
+-- each times its negative weight, and the factor times the list give 0, in each of n listed rows
 abbrev pub IsMultiple : List ℕ → WordMatrix → ℕ → ℕ → List ℕ → ℕ → Type 0
 IsMultiple weights changes i n common factor =
     (k : ℕ) → k < n →
@@ -49,8 +48,8 @@ pub record AreWholeWords (count : ℕ) (room : WordsBuffers) : Type 0 where
   pub whole : count % length room.weights.items ≡ 0
   pub fit : count / length room.weights.items * (length room.weights.items - 1) ≤ room.higher.rows
 
--- where the digits of words stand that have `step` digits, the row of the h-th one that is not a
--- lowest digit
+-- among the digits of words of `step` digits each, the row of the h-th one that is not a lowest
+-- digit
 abbrev pub higher_row : ℕ → ℕ → ℕ
 higher_row step h = h + h / (step - 1) + 1
 
@@ -72,15 +71,16 @@ pub record IsRowAdded (old new : List ℕ) (changes public : WordMatrix) (i : �
   pub added : (q : ℕ) → q < length old →
       slice_index new q ≡ (slice_index old q + sum_below public.rows (λ k. entry changes i k * entry public k q)) % 2 ^ 32
 
--- ---- the list that words are guessed to follow of the k-th listed row, the change of a word: from
--- the one whose digits the server's hint has to the one of the hint; 0 past the listed rows
+-- ---- the list that words are guessed to follow
+-- of the k-th listed row, the change of a word: from the one whose digits the server's hint has to
+-- the one of the hint; 0 past the listed rows
 abbrev pub word_change : ℕ → WordMatrix → WordMatrix → List ℕ → ℕ → ℕ → ℕ
 word_change w server hint listed word k =
     if nat_lt k (length listed)
     then (entry hint (slice_index listed k) word + (2 ^ 32 - recomposed_at w server word (slice_index listed k))) % 2 ^ 32
     else 0
 
--- the fewest zero bits at the end of one of so many numbers: 32 of 0, and where there is no number
+-- the fewest zero bits at the end of one of so many numbers: 32 for 0, and if there is no number
 pub record IsFewestZeros (count : ℕ) (number : ℕ → ℕ) (least : ℕ) : Type 0 where
   pub each : (k : ℕ) → k < count → least ≤ trailing_zeros w32 (number k)
   pub met : (least ≡ 32) ⊎ ((k : ℕ) × (k < count) × (trailing_zeros w32 (number k) ≡ least))
@@ -130,8 +130,8 @@ pub record IsNoGuess (common : List ℕ) (pivot : ℕ) : Type 0 where
   pub zeros : (k : ℕ) → k < length common → slice_index common k ≡ 0
   pub first : pivot ≡ 0
 
--- what is guessed for listed rows: no list where they are fewer than 16, or there is no word; else
--- a list of the first 16 words
+-- what is guessed for listed rows: no list if they are fewer than 16, or there is no word; else a
+-- list of the first 16 words
 pub record IsGuessFor (w : ℕ) (server hint : WordMatrix) (listed common : List ℕ) (pivot : ℕ) : Type 0 where
   pub too_few : length listed < 16 → IsNoGuess common pivot
   pub no_words : hint.cols ≡ 0 → IsNoGuess common pivot

@@ -1,6 +1,6 @@
 //! Hints that follow their digits in place.
 //!
-//! A hint is the product of a digit matrix and a public matrix. Where one digit changes, one row of
+//! A hint is the product of a digit matrix and a public matrix. If one digit changes, one row of
 //! the hint changes, by the difference of the digits times a row of the public matrix: that is all
 //! that is multiplied, and the hint is then, word for word, the one made from scratch. The hints of
 //! DoublePIR follow a changed row of that hint, or several of them, in the same way. The public
@@ -28,12 +28,12 @@ pub use rows::{RowsBuffers, update_double_rows};
 pub use words::WordsBuffers;
 
 /// Changes the hint of a digit matrix as the digit in row `row`, column `col` changes from `old` to
-/// `new`. Where they are equal nothing is multiplied.
+/// `new`. If these are equal, nothing is multiplied.
 ///
-/// Of every digit matrix that has `old` in this place, and from which the hint was made before, the
-/// hint is now made from that matrix with `new` in the place. Whatever the hint was made from, its
-/// row `row` has the difference of the digits times row `col` of the public matrix added, and the
-/// other rows stay. It takes no memory.
+/// For every digit matrix that has `old` in this place, and from which the hint was made before,
+/// the hint is now made from that matrix with `new` in the place. Whatever the hint was made from,
+/// its row `row` has the difference of the digits times row `col` of the public matrix added, and
+/// the other rows stay. Takes no memory.
 pub fn update_simple<K: Kernel>(
     kernel: K,
     hint: &mut Matrix,
@@ -56,7 +56,7 @@ pub fn update_simple<K: Kernel>(
     add_difference(kernel, hint.row_mut(row), a1.row(col), old, new);
 }
 
-// Adds x to `out`, times the difference of two digits; where they are equal nothing is multiplied.
+// Adds x to `out`, times the difference of two digits; if these are equal, nothing is multiplied.
 fn add_difference<K: Kernel>(kernel: K, out: &mut [u32], x: &[u32], old: u32, new: u32)
     requires { length x.now ≡ length out.old }
     ensures { out.new ≡ plus_scaled out.old x.now ((new + (2 ^ 32 - old)) % 2 ^ 32) }
@@ -72,9 +72,8 @@ fn add_difference<K: Kernel>(kernel: K, out: &mut [u32], x: &[u32], old: u32, ne
 /// client's hint H A2 has as many rows as H, and n columns; each of its rows changes by the change
 /// of its digit times row `row` of A2. Nothing is multiplied for a digit that stays.
 ///
-/// Of every D and A1 from which both hints were made before, they are now made from D with its new
-/// row. Whatever they were made from, all other columns of the server's hint stay. It takes no
-/// memory.
+/// For every D and A1 from which both hints were made before, they are now made from D with its new
+/// row. Whatever they were made from, all other columns of the server's hint stay. Takes no memory.
 pub fn update_double<K: Kernel, S: DigitStore>(
     kernel: K,
     server_hint: &mut S,

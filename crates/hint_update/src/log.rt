@@ -60,7 +60,7 @@ impl DeltaLog {
     }
 
     /// Logs a publication: the rows that it changed, in any order. The log's version goes up by
-    /// one; at 16 lists the oldest goes. It takes no memory.
+    /// one; at 16 lists the oldest goes. Takes no memory.
     pub fn add(&mut self, rows: Vec<u32>)
         requires { self.old.version + 1 < 2 ^ 64 }
         ensures { self.new ≡ with_publication rows.items self.old }
@@ -72,7 +72,7 @@ impl DeltaLog {
         self.version += 1;
     }
 
-    /// The rows that the publications since a version changed, ascending, each once: none where the
+    /// The rows that the publications since a version changed, ascending, each once: none if the
     /// version is the current one.
     ///
     /// `None` exactly when the version is neither the current one nor one of the 16 before it that

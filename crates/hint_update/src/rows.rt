@@ -24,7 +24,7 @@ const PASSING_ROWS: usize = 4;
 /// Memory for rows that [`update_double_rows`] takes together, made for digits of w bits: copies of
 /// their rows of the second public matrix, one beside the other, for some rows of the client's hint
 /// the changes of their digits, those of one column as they come and as they were, and what
-/// products of whole words want. What they hold between calls has no meaning.
+/// products of whole words need. What they hold between calls has no meaning.
 #[derive(Drop)]
 pub struct RowsBuffers {
     pub public: Matrix,
@@ -47,9 +47,9 @@ impl RowsBuffers {
         let step = split_count(w);
         let count = BLOCK_ROWS / step;
         let block = count * step;
-        // Before the public rows: what glibc's heap gives out next stands past it. Where products
-        // stood some bytes past the public rows, modulo 4096, loads of these would wait for stores
-        // of those, which only seem to be of their bytes.
+        // Before the public rows: what glibc's heap gives out next is past it. If products were
+        // some bytes past the public rows, modulo 4096, loads of these would wait for stores of
+        // those, which only seem to be to the same bytes.
         let words = WordsBuffers::new(alloc, count, most, cols, w)?;
         let Ok(public) = Matrix::zeros(alloc, most, cols) else {
             return Err(AllocError);
@@ -72,13 +72,13 @@ impl RowsBuffers {
 }
 
 /// Changes both hints of DoublePIR as several rows of the digit matrix D change: those of `listed`,
-/// which ascend. These rows of `hint` are the new rows of D A1. What
+/// which ascend. The listed rows of `hint` are the new rows of D A1. What
 /// [`update_double`](crate::update_double) does for each of them is done here in one pass over the
 /// hints, so that each row of the client's hint is read and written while it is near the processor.
 ///
-/// Of every D and A1 from which both hints were made before, they are now made from D with its new
-/// rows. Whatever they were made from, all other columns of the server's hint stay. It takes no
-/// memory: `room` has some for as many rows as are listed, at least.
+/// For every D and A1 from which both hints were made before, they are now made from D with its new
+/// rows. Whatever they were made from, all other columns of the server's hint stay. Takes no
+/// memory: `room` has some for at least as many rows as are listed.
 pub fn update_double_rows<K: Kernel, S: DigitStore>(
     kernel: K,
     server_hint: &mut S,
@@ -202,7 +202,7 @@ fn replace_digits<S: DigitStore>(
 }
 
 // Writes the digits of one row of the hint into the column of its number, from row `first` on: as
-// many as there is room for, which are then the new ones, and beside them those that stood there.
+// many as there is room for, which are then the new ones, and beside them those that were there.
 fn take_column<S: DigitStore>(
     server_hint: &mut S,
     hint: &Matrix,
@@ -304,7 +304,7 @@ pub(crate) fn add_block<K: Kernel>(
     requires cols { client_hint.old.cols ≡ public.now.cols }
     ensures { AddsRows client_hint.old client_hint.new first count factors.now public.now 0 n }
 {
-    // The first time also where there are none: then no word changes.
+    // The first time even if there are none: then no word changes.
     let mut t = PASSING_ROWS.min(n);
     add_passing(kernel, client_hint, first, count, 0, t, factors, public);
     while t < n {
@@ -341,8 +341,8 @@ fn add_passing<K: Kernel>(
     }
 }
 
-// Adds to `out` the rows of a matrix from `start` on, each times its factor; where all of them are
-// 0 nothing is multiplied.
+// Adds to `out` the rows of a matrix from `start` on, each times its factor; if all of them are 0,
+// nothing is multiplied.
 pub(crate) fn add_changes<K: Kernel>(
     kernel: K,
     out: &mut [u32],

@@ -1,6 +1,6 @@
 //! Rows of the client's hint that change by the digits of whole words.
 //!
-//! The digits of a word, each times its weight 2^(w t), add up to the word. Where one column of D
+//! The digits of a word, each times its weight 2^(w t), add up to the word. If one column of D
 //! changes, row i of D A1 changes by a multiple of one row of A1, and so each word of the changed
 //! rows by a multiple of one list, which has a number for each changed row. The product of this
 //! list with the second public matrix is made once. Of a word's digits only the higher ones are
@@ -31,9 +31,9 @@ use std::alloc::{AllocError, Global};
 // follow from costs more than their products.
 const FEWEST_ROWS: usize = 16;
 
-// How many words are looked at for the changes that the list is made of. Where the first public
-// matrix has an even word, its changes no longer tell odd numbers from even ones, so one word is
-// not enough.
+// How many words are looked at for the changes that the list is made of. If the first public matrix
+// has an even word, its changes no longer tell odd numbers from even ones, so one word is not
+// enough.
 const TRIED_WORDS: usize = 16;
 
 /// Memory for products of whole words: `weights` has the negative weight of each digit of a word,
@@ -129,11 +129,11 @@ fn put_weights(weights: &mut [u32], w: u32)
     }
 }
 
-// Writes a number for each listed row, so that words change by multiples of them, where there are
-// such numbers, and returns the place of one that is 1; where nothing changes, or too few rows do,
-// all are 0. They are the changes of one of the first words, divided modulo 2^32 by the one that is
-// divisible by the lowest power of two. What the division by that power leaves open no multiple
-// shows, as each change is divisible by it.
+// Writes a number for each listed row, so that words change by multiples of them, if there are such
+// numbers, and returns the place of one that is 1; if nothing changes, or too few rows do, all are
+// zero. The numbers are the changes of one of the first words, divided modulo 2^32 by the one that
+// is divisible by the lowest power of two. What the division by that power leaves open shows in no
+// multiple, as each change is divisible by it.
 fn find_multiplier<S: DigitStore>(
     server_hint: &S,
     hint: &Matrix,
@@ -169,7 +169,7 @@ fn find_multiplier<S: DigitStore>(
 }
 
 // The lowest of the powers of two that divide the changes of the first words, as its number of
-// bits: 32 where nothing changes. What `changes` holds afterwards has no meaning.
+// bits: 32 if nothing changes. What `changes` holds afterwards has no meaning.
 fn least_power<S: DigitStore>(
     server_hint: &S,
     hint: &Matrix,
@@ -195,7 +195,7 @@ fn least_power<S: DigitStore>(
 }
 
 // Writes the changes of the first of the words that has one which ends with exactly so many zero
-// bits, and answers its place.
+// bits, and returns its place.
 fn put_first_changes<S: DigitStore>(
     server_hint: &S,
     hint: &Matrix,
@@ -275,7 +275,7 @@ fn put_word_changes<S: DigitStore>(
     }
 }
 
-// The word whose digits stand in a column of the server's hint.
+// The word whose digits are in a column of the server's hint.
 fn word_in<S: DigitStore>(server_hint: &S, w: u32, word: usize, col: usize) -> u32
     requires width { (6 ≤ w) × (w ≤ 10) }
     requires rows { word * split_count w + split_count w ≤ (S.digits server_hint.now).rows }
@@ -325,8 +325,8 @@ fn shifted(x: u32, bits: u32) -> u32
 }
 
 /// Adds to `count` rows of the client's hint, from row `first` on, the public rows, each times the
-/// change of its digit. Where the changes are those of whole words that follow the guessed list,
-/// only those of their higher digits are multiplied.
+/// change of its digit. If the changes are those of whole words that follow the guessed list, only
+/// those of their higher digits are multiplied.
 pub(crate) fn add_changed<K: Kernel>(
     kernel: K,
     client_hint: &mut Matrix,
@@ -396,8 +396,8 @@ fn takes_words<K: Kernel>(kernel: K, count: usize, n: usize, room: &mut RowsBuff
     factor_of_word(kernel, 0, n, &room.changes, &room.words, &mut room.sums).is_some()
 }
 
-// The factor by which the word changes whose digits' changes stand from row i on, times the guessed
-// list; `None` where it does not follow that list.
+// The factor by which the word whose digits' changes begin in row i changes, times the guessed
+// list; `None` if the word does not follow that list.
 fn factor_of_word<K: Kernel>(
     kernel: K,
     i: usize,
@@ -542,8 +542,8 @@ fn add_row<K: Kernel>(
     }
 }
 
-// The same for the changes of a lowest digit: where the word follows the guessed list, by the
-// products of its higher digits.
+// The same for the changes of a lowest digit: if the word follows the guessed list, by the products
+// of its higher digits.
 fn add_lowest<K: Kernel>(
     kernel: K,
     out: &mut [u32],

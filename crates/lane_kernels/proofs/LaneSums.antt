@@ -146,7 +146,7 @@ below_four P p0 p1 p2 p3 (suc (suc zero)) h = p2
 below_four P p0 p1 p2 p3 (suc (suc (suc zero))) h = p3
 below_four P p0 p1 p2 p3 (suc (suc (suc (suc n)))) h = absurd (omega arith)
 
--- and at each of two
+-- what holds at each of two places
 pub below_two : (P : ℕ → Type 0) → P 0 → P 1 → (j : ℕ) → j < 2 → P j
 below_two P p0 p1 zero h = p0
 below_two P p0 p1 (suc zero) h = p1

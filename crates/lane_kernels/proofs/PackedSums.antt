@@ -147,7 +147,7 @@ split_left n d u x e = ap (λ k. k * x) e ∙ add-mul d (1024 * u) x ∙ ap (λ 
 split_right : (u b x : ℕ) → u * (b + 1024 * x) ≡ u * b + 1024 * (u * x)
 split_right u b x = mul-add u b (1024 * x) ∙ ap (λ k. u * b + k) (mul_left_comm u 1024 x)
 
--- what stands above a digit is taken off by the next term
+-- what is above a digit is taken off by the next term
 pub shifted_word : (w x y z b c : ℕ) → (b + 1024 * x) % 2 ^ 32 ≡ y % 2 ^ 32 → (c + 1024 * y) % 2 ^ 32 ≡ z % 2 ^ 32
     → shifted_products w x b c % 2 ^ 32 ≡ digit_products w x y z % 2 ^ 32
 shifted_word w x y z b c eb ec =
@@ -219,7 +219,7 @@ piece_fits row rows words start count total below inside all =
     let fits : row * words + words ≤ rows * words = row_fits row words rows words below (omega arith) in
     omega (arith, fits)
 
--- the words of one part of a row, which stand among all words
+-- the words of one part of a row, among all words
 pub row_part : (packed x : List ℕ) (q rows words start count : ℕ) (xs ys zs : List ℕ) → q < rows → start + count ≤ words
     → length packed ≡ rows * words
     → IsThirds x (3 * start) count xs → IsCarried x (3 * start) count ys → IsCarried x (3 * start + 1) count zs
@@ -288,7 +288,7 @@ row_digits packed x cols at long small =
     let size = ap (λ k. sum_below k g) whole in
     omega (arith, past, parts, threes, each, size)
 
--- what holds of each word holds at each place, since 0 stands past the end
+-- what holds of each word holds at each place, since there is 0 past the end
 word_small : (words : List ℕ) → All (λ word. word < 2 ^ 30) words → (k : ℕ) → slice_index words k < 2 ^ 30
 word_small words small k = elim (cases_lt k (length words)) [
   | inl lt ↦ All-get_or (λ word. word < 2 ^ 30) words k 0 lt small

@@ -58,7 +58,7 @@ plus_rows-add out n m f g b start same =
     sum_same m _ _ (λ k p. let e : start + n + k ≡ start + (n + k) = omega arith in rw (same k p, e) refl) in
     now ∙ omega (arith, was, more, each))
 
--- the rows whose factors stand past the first n
+-- the rows whose factors are past the first n
 pub plus_rows-rest : (old out factors : List ℕ) (n : ℕ) (b : WordMatrix) (start : ℕ) → n ≤ length factors
     → out ≡ plus_rows old n (λ k. slice_index factors k) b start
     → let tail = take (length factors - n) (drop n factors) in

@@ -267,8 +267,8 @@ fn clear(m: &mut Matrix)
 // The most rows of out that stay near the processor while all rows of b pass.
 const NEAR_ROWS: usize = 64;
 
-// How many inner places are taken at a time in a product of so many rows. Where out stays near,
-// four: their rows of b then stay nearest while all rows of out pass. Else as many as keep their
+// How many inner places are taken at a time in a product of so many rows. If out stays near, four:
+// their rows of b then stay nearest while all rows of out pass. Otherwise as many as keep their
 // rows of b near, so that out is read and written less often.
 fn block_of(rows: usize) -> usize
     ensures { 0 < result }
@@ -304,7 +304,7 @@ fn add_block(a: &Matrix, b: &Matrix, start: usize, count: usize, out: &mut Matri
     ensures { out.new ≡ plus_products out.old a.now b.now start count }
 {
     add_pairs(a, b, start, count, out);
-    // The last row, where it has no other beside it.
+    // The last row, if it has no other beside it.
     for i in a.rows() / 2 * 2..a.rows() {
         let factors = &a.row(i)[start..start + count];
         add_rows(out.row_mut(i), factors, b, start);

@@ -2,8 +2,8 @@
 //!
 //! Let a word be `d + 2^10 e + 2^20 f`, with digits below 2^10, and let `b = y - 2^10 x` and
 //! `c = z - 2^10 y` modulo 2^32. Then `word x + (word >> 10) b + (word >> 20) c` is
-//! `d x + e y + f z` modulo 2^32: what stands above a digit in one term is taken off by the next.
-//! So the vector alone is prepared, once for all rows.
+//! `d x + e y + f z` modulo 2^32: what is above a digit in one term is taken off by the next. So
+//! only the vector is prepared, once for all rows.
 
 ghost use Rattle.std.specs.Prelude.{◌≡◌, ℕ, ◌<◌, ◌≤◌, ◌+◌, ◌*◌, ◌%◌, ◌^◌, length};
 ghost use Rattle.std.specs.Prelude.{slice_index, slice_range, All};
@@ -15,7 +15,7 @@ ghost use Rattle.lane_kernels.specs.Carried.{lane_products, shifted_sum, plus_pa
 
 use std::simd::prelude::*;
 
-// As many words of a row as are taken at a time: the prepared vector of so many words stands on the
+// As many words of a row as are taken at a time: the prepared vector of so many words is on the
 // stack. Rows of 32,832 columns or fewer are done in one part, since memory is read ahead of need
 // only as far as a row is taken.
 pub(crate) const PART: usize = 10944;
@@ -32,8 +32,8 @@ pub(crate) struct Prepared<'a> {
 /// Writes the product of a packed matrix of digits and `x` into `out`, whatever it held.
 ///
 /// The matrix has a row for each word of `out` and a column for each word of `x`. A row is cols / 3
-/// words, rounded up; digit 3 t + u stands in bits 10 u to 10 u + 9 of its word t. Bits 30 and 31
-/// of each word are 0; digits of the last word past the last column count for nothing.
+/// words, rounded up; digit 3 t + u is in bits 10 u to 10 u + 9 of its word t. Bits 30 and 31 of
+/// each word are 0; digits of the last word past the last column count for nothing.
 pub fn packed_mul_vec(packed: &[u32], cols: usize, x: &[u32], out: &mut [u32])
     requires x_fits { length x.now ≡ cols }
     requires rows_fit { length packed.now ≡ length out.old * packed_cols cols }

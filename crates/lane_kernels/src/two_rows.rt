@@ -10,7 +10,7 @@ use crate::lanes::{add_four_rest, add_rows_singly};
 use matrix_u32::Matrix;
 use std::simd::prelude::*;
 
-/// Adds to each word of out, but for those of an odd last row, the products of `count` inner places
+/// Adds to each word of out, except those of an odd last row, the products of `count` inner places
 /// from start on.
 pub(crate) fn add_pairs(a: &Matrix, b: &Matrix, start: usize, count: usize, out: &mut Matrix)
     requires fits { a.now.cols ≡ b.now.rows }
@@ -30,8 +30,8 @@ pub(crate) fn add_pairs(a: &Matrix, b: &Matrix, start: usize, count: usize, out:
     }
 }
 
-// Adds the rows of b from start on to two rows that stand one behind the other, each times its
-// factor for either.
+// Adds the rows of b from start on to two rows, one after the other, each times its factor for
+// either.
 fn add_rows_to_pair(both: &mut [u32], first: &[u32], second: &[u32], b: &Matrix, start: usize)
     requires width { length both.old ≡ b.now.cols + b.now.cols }
     requires same_factors { length second.now ≡ length first.now }

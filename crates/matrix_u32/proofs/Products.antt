@@ -65,7 +65,7 @@ list_of-at x n e = sym (fill_by_all (λ k. slice_index x k) x n 0 e (λ k l. ref
 pub dot-lists_of : (n : ℕ) (f g : ℕ → ℕ) → dot (list_of n f) (list_of n g) ≡ sum_below n (λ k. f k * g k) % 2 ^ 32
 dot-lists_of n f g = dot-list_of n f g (list_of n g) (λ k l. at-list_of n g k l)
 
--- x (a s) = (x a) s, where x has as many words as a has rows
+-- x (a s) = (x a) s, if x has as many words as a has rows
 pub dot-times_vector : (x : List ℕ) (a : WordMatrix) (s : List ℕ) → length x ≡ a.rows → dot x (times_vector a s) ≡ dot (vector_times x a) s
 dot-times_vector x a s e =
     ap (λ y. dot y (times_vector a s)) (sym (list_of-at x a.rows e))

@@ -16,7 +16,7 @@ use Rattle.matrix_u32.proofs.Sums.{sum_below_more, sum_below_none}
 use Rattle.matrix_u32.proofs.Products.{at-list_of, length-list_of, entry-matrix_of, piece-list_of, same-list_of, words_are}
 use Rattle.matrix_u32.proofs.Changes.{matrix_by_entries}
 
--- what a loan of part of a list leaves, where the list keeps its length
+-- what a loan of part of a list leaves, if the list keeps its length
 pub overwritten_cut : (n place : ℕ) (new old : List ℕ) → length old ≡ n → place ≤ n
     → let x = take place old ++ (new ++ drop (length new) (drop place old)) in take n (x ++ drop (length x) old) ≡ overwritten place new old
 overwritten_cut n place new old long le =
@@ -35,7 +35,7 @@ row_piece m i room =
     let cut : i * m.cols + m.cols - i * m.cols ≡ m.cols = omega arith in
     rw cut at (piece-list_of m.words (i * m.cols) m.cols room)
 
--- those of two rows, one behind the other
+-- those of two rows, one after the other
 pub two_rows : (m : WordMatrix) (i : ℕ) → IsWhole m → i + 1 < m.rows
     → take (m.cols + m.cols) (drop (i * m.cols) m.words) ≡ row m i ++ row m (i + 1)
 two_rows m i whole inside =
@@ -141,7 +141,7 @@ entry-zero_matrix rows cols p q hp hq =
     let fits : p * cols + cols ≤ rows * cols = row_fits p cols rows cols hp (omega arith) in
     get_or-replicate (rows * cols) (p * cols + q) 0 0 (omega (arith, fits))
 
--- two lists written over a list one behind the other, at once or each by itself
+-- two lists written over a list one after the other, at once or each by itself
 put_two : (i j : ℕ) (old xs ys : List ℕ) → i + length xs ≡ j → put_chunk i old (xs ++ ys) ≡ put_chunk j (put_chunk i old xs) ys
 put_two i j [] xs ys e = refl
 put_two zero zero (w ∷ old) [] ys e = refl

@@ -26,7 +26,7 @@ abbrev pub ZeroColumnsAddNothing : Type 0
 ZeroColumnsAddNothing = (d a : WordMatrix) (cols : ℕ) → d.cols ≤ cols → product (widened d cols) a ≡ product d a
 
 -- a product takes as many rows of its right factor as the left one has columns, and any further
--- ones leave it
+-- ones leave it unchanged
 abbrev pub FurtherRowsAddNothing : Type 0
 FurtherRowsAddNothing = (d a : WordMatrix) (n : ℕ) → d.cols ≤ n → n ≤ a.rows → product d a ≡ product d (first_rows a n)
 

@@ -56,7 +56,7 @@ with_entry a i j word = record a { words = slice_set a.words (i * a.cols + j) wo
 abbrev pub plus_scaled : List ℕ → List ℕ → ℕ → List ℕ
 plus_scaled out x k = list_of (length out) (λ j. (slice_index out j + k * slice_index x j) % 2 ^ 32)
 
--- the word in row i, column j, where columns past the last count as 0
+-- the word in row i, column j, with 0 in columns past the last
 abbrev pub entry_or_zero : WordMatrix → ℕ → ℕ → ℕ
 entry_or_zero a i j = if nat_lt j a.cols then entry a i j else 0
 
@@ -68,7 +68,7 @@ widened a cols = matrix_of a.rows cols (entry_or_zero a)
 abbrev pub with_rows : WordMatrix → List ℕ → WordMatrix
 with_rows a words = record a { rows = a.rows + length words / a.cols; words = a.words ++ words }
 
--- words that are a whole number of rows; where a row has no words, no words at all
+-- words that are a whole number of rows; if a row has no words, no words at all
 abbrev pub AreWholeRows : ℕ → List ℕ → Type 0
 AreWholeRows cols words = (n : ℕ) × (length words ≡ n * cols)
 

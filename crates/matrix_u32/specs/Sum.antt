@@ -11,7 +11,7 @@ sum_below (suc n) f = sum_below n f + f n
 abbrev pub list_of : {X : Type 0} → ℕ → (ℕ → X) → List X
 list_of n f = map f (range_with_len 0 n)
 
--- the word that stands for a number: a negative number stands for its residue modulo 2 ^ 32
+-- the word that represents a number, which may be negative: its residue modulo 2 ^ 32
 abbrev pub residue : ℤ → ℕ
 residue (pos n) = n % 2 ^ 32
 residue (negsuc n) = 2 ^ 32 - 1 - n % 2 ^ 32

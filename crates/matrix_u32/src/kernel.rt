@@ -10,8 +10,8 @@ use crate::matrix::Matrix;
 /// What makes products of words. All arithmetic is modulo 2^32: each word of a result is the sum of
 /// the products over whole numbers, reduced once at the end.
 ///
-/// Every implementation gives the same words, so code above is proved once for all of them. It
-/// writes four calls; `add_rows` goes by `add_scaled` where no faster way is written.
+/// Every implementation gives the same words, so code above is proved once for all of them. An
+/// implementation writes four calls; `add_rows` goes by `add_scaled` if no faster way is written.
 pub trait Kernel: Copy {
     /// The dot product x . y of two lists of the same length.
     fn dot(self, x: &[u32], y: &[u32]) -> u32
@@ -51,8 +51,8 @@ pub trait Kernel: Copy {
     }
 }
 
-/// The plain kernel: one word after the other, as the definitions say it. It is what faster kernels
-/// are compared with.
+/// The plain kernel: one word after the other, as the definitions say it. Faster kernels are
+/// compared with it.
 #[derive(Clone, Copy, Debug)]
 pub struct Plain;
 

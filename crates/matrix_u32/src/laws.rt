@@ -25,17 +25,17 @@ pub fn changed_word_changes_its_row()
     ensures { ChangedWordChangesItsRow }
 {}
 
-/// Columns of zeros past the last of D leave D A.
+/// Columns of zeros after the last of D leave D A unchanged.
 pub fn zero_columns_add_nothing()
     ensures { ZeroColumnsAddNothing }
 {}
 
-/// Rows of A past as many as D has columns leave D A.
+/// Rows of A past the number of D's columns leave D A unchanged.
 pub fn further_rows_add_nothing()
     ensures { FurtherRowsAddNothing }
 {}
 
-/// D A stays as it is where D is given columns of zeros and A further rows.
+/// D A stays the same when D is given columns of zeros and A further rows.
 pub fn growth_leaves_product()
     ensures { GrowthLeavesProduct }
 {}

@@ -4,7 +4,7 @@
 //! matrix, a dot product and a matrix product are; the contracts here cite it. The functions of
 //! [`laws`] have empty bodies: their contracts are the laws of these definitions.
 //!
-//! Its tests are in `matrix::tests` and `kernel::tests`.
+//! Its tests are in tests/long/matrix_u32.
 #![tactic(auto)]
 
 mod kernel;

@@ -32,7 +32,7 @@ pub enum MatrixError {
     /// The words given are not as many as rows times columns.
     #[error("the number of words is not rows times columns")]
     WrongCount,
-    /// There is no memory for the words.
+    /// Out of memory for the words.
     #[error("out of memory")]
     Memory,
 }
@@ -88,7 +88,7 @@ impl Matrix {
         }
     }
 
-    /// A matrix of these words, given row by row. It takes no memory.
+    /// A matrix of these words, given row by row. Takes no memory.
     ///
     /// `TooLarge` exactly when rows times columns is above [`MAX_WORDS`], whatever the count of
     /// words; `WrongCount` exactly when it isn't and the words are not rows times columns; never
@@ -162,13 +162,13 @@ impl Matrix {
     }
 
     /// Appends rows of these words, given row by row. The matrix's own memory grows for them, once,
-    /// and only where it has no room.
+    /// and only if it has no room.
     ///
     /// `TooLarge` exactly when the words held and those given are together more than [`MAX_WORDS`],
     /// which is judged first; else `WrongCount` exactly when the words given are not a whole number
-    /// of rows: where the matrix has no columns, no words add no row, and any others are refused;
-    /// else `Memory` where the growth is refused. At a refusal the matrix stays as it was. Rows
-    /// that were there never change.
+    /// of rows: if the matrix has no columns, no words add no row, and any others are refused; else
+    /// `Memory` if the growth is refused. At a refusal the matrix stays as it was. Rows that were
+    /// there never change.
     pub fn push_rows(&mut self, words: Vec<u32>) -> Result<(), MatrixError>
         ensures pushed { OnOk result (self.new ≡ with_rows self.old words.items) }
         ensures kept { OnOk result (first_rows self.new self.old.rows ≡ self.old) }
@@ -195,7 +195,7 @@ impl Matrix {
         Ok(())
     }
 
-    /// The words, row by row, given back. It takes no memory.
+    /// The words, row by row, given back. Takes no memory.
     pub fn into_words(self) -> Vec<u32>
         ensures value { result.items ≡ self.words }
         ensures count { length result.items ≡ self.rows * self.cols }
@@ -221,7 +221,7 @@ impl Matrix {
         self.words.slice_mut(at..end)
     }
 
-    /// Rows i and i + 1, one behind the other, to be written in place at once: once the borrow is
+    /// Rows i and i + 1, one after the other, to be written in place at once: once the borrow is
     /// over, the matrix has the words that they were left with, and keeps all others.
     pub fn two_rows_mut(&mut self, i: usize) -> &mut [u32]
         requires { i + 1 < self.old.rows }
@@ -235,7 +235,7 @@ impl Matrix {
     }
 }
 
-// How many words a matrix of that size has, where it may have so many.
+// How many words a matrix of that size has, if it may have so many.
 fn word_count(rows: usize, cols: usize) -> Result<usize, MatrixError>
     ensures count { IfOk result (λ count. (count ≡ rows * cols) × (rows * cols ≤ most_words)) }
     ensures refused { IfErr result (λ e. (e ≡ MatrixError.TooLarge) × (most_words < rows * cols)) }
@@ -246,7 +246,7 @@ fn word_count(rows: usize, cols: usize) -> Result<usize, MatrixError>
     }
 }
 
-// How many rows of so many words these are, where they are a whole number of rows.
+// How many rows of so many words there are, if the words are a whole number of rows.
 fn row_count(words: usize, cols: usize) -> Result<usize, MatrixError>
     ensures count { IfOk result (λ count. (count ≡ words / cols) × (words ≡ count * cols)) }
     ensures refused { IfErr result (λ e.
@@ -261,14 +261,14 @@ fn row_count(words: usize, cols: usize) -> Result<usize, MatrixError>
     Ok(words / cols)
 }
 
-// Adds words to others, or leaves them where there is no memory.
+// Adds words to others, or leaves both unchanged if memory is refused.
 fn put_words(words: &mut Vec<u32>, mut more: Vec<u32>) -> Result<(), MatrixError>
     ensures put { OnOk result (words.new.items ≡ words.old.items ++ more.items) }
     ensures refused { IfErr result (λ e. e ≡ MatrixError.Memory) }
     ensures unchanged { OnErr result (words.new.items ≡ words.old.items) }
 {
     words.reserve_exact(more.len())?;
-    // There is room now: no refusal is left.
+    // There is room now: this can't fail.
     words.append(&mut more).unwrap();
     Ok(())
 }

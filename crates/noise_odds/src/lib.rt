@@ -1,4 +1,4 @@
-//! How rarely noise has a digit misread.
+//! How rarely noise causes a digit to be misread.
 //!
 //! Odds are given in bits: b bits are odds of 2^-b at most. The numbers are those of the
 //! definitions in `specs/Odds`; that no odds are greater is Chernoff's bound, of which nothing is

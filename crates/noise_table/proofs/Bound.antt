@@ -40,6 +40,6 @@ negated m n e h =
     let negative_fits : SFits w32 (pos 0 -ℤ m) = omega (arith, ints) in
     rw (to_z-of_z w32 m fits, to_z-of_z w32 (pos 0 -ℤ m) negative_fits) (omega (arith, ints))
 
--- where the sign bit is 1
+-- if the sign bit is 1
 pub if_one : (bit : ℕ) (a b : ℤ) → bit ≡ 1 → (if bit == 1 then a else b) ≡ a
 if_one bit a b e = grind (arith, nat_tests)

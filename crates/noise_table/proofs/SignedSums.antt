@@ -20,7 +20,7 @@ signed_sum_le (suc n) b f h =
 term_le : (w a : ℕ) (e : ℤ) → a < 2 ^ w → unsigned_abs e ≤ 27 → unsigned_abs (pos a *ℤ e) ≤ 27 * (2 ^ w - 1)
 term_le w a e p q = rw (unsigned_abs-mul (pos a) e) (omega (arith, mul-le a (unsigned_abs e) (2 ^ w - 1) 27 (omega arith) q))
 
--- where so many terms are certain, every row of that many digits is quiet
+-- if so many terms are certain, every row of that many digits is quiet
 pub certain_quiet : (w : ℕ) (x : List ℕ) (e : List ℤ) → IsCertain w (length x) → ((j : ℕ) → slice_index x j < 2 ^ w) →
     ((j : ℕ) → unsigned_abs (slice_index_or e j (pos 0)) ≤ 27) → IsQuiet w x e
 certain_quiet w x e c d n =

@@ -10,7 +10,7 @@ unfoldable pub signed_sum_below : ℕ → (ℕ → ℤ) → ℤ
 signed_sum_below zero f = pos 0
 signed_sum_below (suc n) f = signed_sum_below n f +ℤ f n
 
--- the whole-number sum of x[j] e[j]. It is not reduced
+-- the whole-number sum of x[j] e[j], which is not reduced
 abbrev pub noise_sum : List ℕ → List ℤ → ℤ
 noise_sum x e = signed_sum_below (length x) (λ j. pos (slice_index x j) *ℤ slice_index_or e j (pos 0))
 

@@ -1,4 +1,4 @@
-//! The noise that stands for a word, and the margin that sums of noise have to keep.
+//! The noise that a word gives, and the margin that sums of noise have to keep.
 //!
 //! Its tests are in tests/long/noise_table and in `tests_scheme::sources`.
 #![tactic(auto)]
@@ -95,8 +95,7 @@ pub fn noise_is_bounded()
     ensures { NoiseIsBounded }
 {}
 
-/// Where a number of terms is certain, every row of that many digits is quiet, whatever the noise
-/// is.
+/// If a number of terms is certain, every row of that many digits is quiet, whatever the noise is.
 pub fn certain_is_quiet()
     ensures { CertainIsQuiet }
 {}

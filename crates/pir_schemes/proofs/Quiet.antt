@@ -51,14 +51,14 @@ content_by true len bytes le fits =
     (f.accepted, f.same)
 content_by false len bytes le fits = (refl, refl)
 
--- what stands in the digits for a record has the shape's length
+-- what a record has in the digits has the shape's length
 pub slot_is_record : (p : Plan) (n : ℕ) (bytes : List ℕ) → IsPlan p n → IsRecordOf p bytes → IsRecord (shape_at p n) (slot p bytes)
 unfolding fits slot
 slot_is_record p n bytes ok r =
     let s = slot_by (is_slotted p.form) p.record_len bytes ok.layout.record_len.1 r.fits r.each in
     record { len = s.0; each = s.1 }
 
--- and is the slot of this record
+-- the bytes that a record has in the digits are its slot
 pub slot_holds : (p : Plan) (n : ℕ) (bytes : List ℕ) → IsPlan p n → fits p bytes ≡ true →
     (is_slot_of p (slot p bytes) ≡ true) × (content p (slot p bytes) ≡ bytes)
 unfolding fits slot is_slot_of content

@@ -4,7 +4,7 @@ use Rattle.digit_pack.specs.Layout.{Shape}
 use Rattle.pir_schemes.specs.declared.scheme.Scheme.{Scheme}
 use Rattle.pir_schemes.specs.Retrievals.{hint_len, query_count, answer_count}
 
--- how many words some retrievals move, where the public matrices have n columns: those of the hint,
+-- how many words some retrievals move, under public matrices of n columns: those of the hint,
 -- unless it is held, and for each retrieval those of its query and of its answer
 abbrev pub words_moved : Scheme → Shape → ℕ → ℕ → Bool → ℕ
 words_moved s l n times held = cond held 0 (hint_len s l n) + times * (query_count s l + answer_count s l n)

@@ -33,7 +33,7 @@ ReadsRecordOf s p count hint seed number i answer outcome =
     ⊎ ((e ≡ BadDigits) × (length answer ≡ answer_count s l hint.cols) × (record_of p (reading s l hint seed number i answer) ≡ None))
     ⊎ ((e ≡ Memory) × (length answer ≡ answer_count s l hint.cols)))
 
--- a hint has its rows, n columns, and as many words as these want
+-- a hint has its rows, n columns, and as many words as these need
 pub record HasHintSizes (s : Scheme) (p : Plan) (records : List (List ℕ)) : Type 0 where
   pub rows : (hint_matrix s p records).rows ≡ hint_rows s (shape_at p (length records)) p.dimension
   pub cols : (hint_matrix s p records).cols ≡ p.dimension
@@ -43,12 +43,12 @@ pub record HasHintSizes (s : Scheme) (p : Plan) (records : List (List ℕ)) : Ty
 abbrev pub HintsHaveTheirSizes : Type 0
 HintsHaveTheirSizes = (s : Scheme) (p : Plan) (records : List (List ℕ)) → HasHintSizes s p records
 
--- a query has the words that its scheme wants
+-- a query has the words that its scheme expects
 abbrev pub QueriesHaveTheirLength : Type 0
 QueriesHaveTheirLength = (s : Scheme) (l : Shape) (n : ℕ) (public seed : List ℕ) (number i : ℕ) →
     length (query_words s l n public seed number i) ≡ query_count s l
 
--- an answer has the words that its scheme wants
+-- an answer has the words that its scheme expects
 abbrev pub AnswersHaveTheirLength : Type 0
 AnswersHaveTheirLength = (s : Scheme) (p : Plan) (records : List (List ℕ)) (words : List ℕ) →
     length (answer_words s p records words) ≡ answer_count s (shape_at p (length records)) p.dimension
@@ -59,8 +59,8 @@ abbrev pub IsCertainOf : Scheme → Shape → Type 0
 IsCertainOf Simple l = IsCertain l.width (digit_cols l)
 IsCertainOf Double l = IsCertain l.width (digit_cols l) × IsCertain l.width (digit_rows l)
 
--- a retrieval from a version, read under the version's hint, gives its record where it is quiet,
--- and on a certain shape always
+-- a retrieval from a version, read under the version's hint, gives its record if it is quiet, and
+-- on a certain shape always
 abbrev pub RetrievalGivesTheRecord : Type 0
 RetrievalGivesTheRecord = (s : Scheme) (p : Plan) (records : List (List ℕ)) (seed : List ℕ) (number i : ℕ) →
     IsPlan p (length records) → i < length records → IsRecordOf p (record_at records i) →
@@ -84,8 +84,8 @@ is_place Double l i k =
     if nat_lt k (digit_cols l) then k == column_of l i
     else (k - digit_cols l) % digit_rows l == first_row l i + (k - digit_cols l) / digit_rows l
 
--- two queries of one seed and number, for records i and j: word k is the same in both where it is
--- at a place of both records or of neither; at a place of record i alone it is more by delta
+-- two queries of one seed and number, for records i and j: word k is the same in both if it is at a
+-- place of both records or of neither; at a place of record i alone it is more by delta
 pub record DifferAtTheirPlaces (s : Scheme) (l : Shape) (n : ℕ) (public seed : List ℕ) (number i j k : ℕ) : Type 0 where
   pub same : is_place s l i k ≡ is_place s l j k →
       slice_index (query_words s l n public seed number i) k ≡ slice_index (query_words s l n public seed number j) k
@@ -93,7 +93,7 @@ pub record DifferAtTheirPlaces (s : Scheme) (l : Shape) (n : ℕ) (public seed :
       slice_index (query_words s l n public seed number i) k
       ≡ (slice_index (query_words s l n public seed number j) k + delta l.width) % 2 ^ 32
 
--- so queries of one seed and number differ at their records' places alone, by delta
+-- queries of one seed and number differ at their records' places alone, by delta
 abbrev pub QueriesDifferAtTheirPlaces : Type 0
 QueriesDifferAtTheirPlaces = (s : Scheme) (l : Shape) (n : ℕ) (public seed : List ℕ) (number i j k : ℕ) →
     k < query_count s l → DifferAtTheirPlaces s l n public seed number i j k

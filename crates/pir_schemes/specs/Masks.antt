@@ -1,4 +1,4 @@
--- Masks: of the first layers of the queries of several retrievals all that no record is named for.
+-- Masks: all that depends on no record in the first layers of several retrievals' queries.
 use Rattle.std.specs.Prelude.{◌≡◌, ℕ, ◌+◌, ◌<◌, ◌≤◌, List}
 use Rattle.matrix_u32.specs.Matrix.{WordMatrix}
 use Rattle.seed_expand.specs.Words.{public_rows}
@@ -11,7 +11,8 @@ use Rattle.pir_schemes.specs.Plans.{shape_at}
 abbrev pub public_over : Plan → ℕ → WordMatrix
 public_over p cols = public_rows p.seed 0 0 cols p.dimension
 
--- the masks have that of retrieval `number` of a client's seed, on a version with so many records
+-- the masks include that of retrieval `number` of a client's seed, on a version with so many
+-- records
 pub record Serve (m : MasksFor) (p : Plan) (records : ℕ) (seed : List ℕ) (number : ℕ) : Type 0 where
   pub plan : m.plan ≡ p
   pub cols : m.cols ≡ digit_cols (shape_at p records)

@@ -1,4 +1,4 @@
--- What stays the same in every version of some records, and how a version's records stand in
+-- What stays the same in every version of some records, and how a version's records are held in
 -- digits.
 use Rattle.std.specs.Prelude.{◌≡◌, ◌≤◌, ◌<◌, ◌^◌, ◌*◌, ◌+◌, ℕ, List, All, length, map, Bool, true, Option, Some, None, ◌==◌, ◌&&◌, ◌||◌, nat_lt, nat_le, if◌then◌else◌}
 use Rattle.matrix_u32.specs.Matrix.{WordMatrix}
@@ -56,7 +56,7 @@ pub record IsRecordOf (p : Plan) (bytes : List ℕ) : Type 0 where
   pub fits : fits p bytes ≡ true
   pub each : All (λ b. b < 2 ^ 8) bytes
 
--- the bytes that stand in the digits for a record
+-- the bytes that a record has in the digits
 unfoldable pub slot : Plan → List ℕ → List ℕ
 slot p bytes = if is_slotted p.form then slot_of p.record_len bytes else bytes
 
@@ -68,11 +68,11 @@ is_slot_of p bytes = if is_slotted p.form then is_slot bytes else true
 unfoldable pub content : Plan → List ℕ → List ℕ
 content p bytes = if is_slotted p.form then content_of bytes else bytes
 
--- the bytes that stand in the digits, a list for each record
+-- the bytes that records have in the digits, a list for each record
 abbrev pub slots : Plan → List (List ℕ) → List (List ℕ)
 slots p records = map (slot p) records
 
--- the records whose bytes in the digits stand one after another
+-- the records that have these bytes in the digits, one after another
 abbrev pub records_held : Plan → ℕ → List ℕ → List (List ℕ)
 records_held p count bytes = map (content p) (records_in (shape_at p count) bytes)
 
@@ -93,7 +93,7 @@ second_public l n public = public_rows public 1 0 (digit_rows l) n
 abbrev pub bytes_written : Plan → List ℕ → List ℕ
 bytes_written p digits = digits_of 8 p.record_len (number_of p.width digits)
 
--- the record that an answer's digits write; none where they set a bit past its last byte, or their
+-- the record that an answer's digits write; none if they set a bit past its last byte, or their
 -- bytes are no record's
 unfoldable pub record_of : Plan → List ℕ → Option (List ℕ)
 record_of p digits =

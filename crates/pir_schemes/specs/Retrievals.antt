@@ -19,7 +19,7 @@ use Rattle.pir_schemes.specs.declared.scheme.Scheme.TheVariants.{Simple, Double}
 use Rattle.pir_schemes.specs.declared.plan.Plan.{Plan}
 use Rattle.pir_schemes.specs.Plans.{shape_at, digits_at, slots, first_public, second_public}
 
--- ---- counts, where the public matrices have n columns
+-- ---- counts, under public matrices of n columns
 
 -- how many rows a hint has: one for each row of digits; or one for each digit of n words
 abbrev pub hint_rows : Scheme → Shape → ℕ → ℕ

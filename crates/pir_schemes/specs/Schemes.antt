@@ -8,6 +8,6 @@ abbrev pub scheme_byte : Scheme → ℕ
 scheme_byte Simple = 0
 scheme_byte Double = 1
 
--- the scheme that a byte names, where it names one
+-- the scheme that a byte names, if it names one
 abbrev pub scheme_of_byte : ℕ → Option Scheme
 scheme_of_byte byte = if byte == 0 then Some Simple else (if byte == 1 then Some Double else None)

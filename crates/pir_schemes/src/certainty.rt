@@ -7,7 +7,8 @@ use crate::scheme::Scheme;
 use digit_pack::Layout;
 
 /// Whether every retrieval on a layout is certain to give its record: whatever noise is drawn, its
-/// sums stay below half of delta. For DoublePIR the rows of digits are summed beside the columns.
+/// sums stay below half of delta. For DoublePIR the rows of digits are summed as well as the
+/// columns.
 pub fn is_certain(scheme: Scheme, layout: &Layout) -> bool
     ensures { IsTrue result ↔ IsCertainOf scheme layout.now }
 {

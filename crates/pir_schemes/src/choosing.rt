@@ -7,7 +7,7 @@ use crate::counts::{answer_count, hint_len, query_count};
 use crate::scheme::Scheme;
 use digit_pack::Layout;
 
-/// Of which schemes a client holds the hint that it needs, or one that is moved to it by little.
+/// Of which schemes a client holds the hint that it needs, or one that few changes turn into it.
 #[derive(Clone, Copy, Debug, PartialEq, Eq)]
 pub struct HintsHeld {
     pub simple: bool,
@@ -32,7 +32,7 @@ fn words_moved(scheme: Scheme, layout: &Layout, n: usize, times: u32, is_held: b
 }
 
 /// The scheme by which so many retrievals move fewer words; SimplePIR, if both move as many. `n` is
-/// the dimension of the public matrices, at most 1024. What is asked for has no part in this.
+/// the dimension of the public matrices, at most 1024. Which records are asked for plays no part.
 pub fn cheaper_scheme(layout: &Layout, n: usize, times: u32, held: HintsHeld) -> Scheme
     requires { n ≤ 1024 }
     ensures { result ≡ Scheme.Simple ↔

@@ -10,13 +10,13 @@ ghost use Rattle.pir_schemes.specs.Laws.{
   QueriesDifferAtTheirPlaces,
 };
 
-/// A hint made from scratch has the rows and columns that its scheme wants, and a word for each
+/// A hint made from scratch has the rows and columns that its scheme expects, and a word for each
 /// place.
 pub fn hints_have_their_sizes()
     ensures { HintsHaveTheirSizes }
 {}
 
-/// A query has as many words as its scheme wants.
+/// A query has as many words as its scheme expects.
 pub fn queries_have_their_length()
     ensures { QueriesHaveTheirLength }
 {}
@@ -27,13 +27,13 @@ pub fn queries_differ_at_their_places()
     ensures { QueriesDifferAtTheirPlaces }
 {}
 
-/// An answer has as many words as its scheme wants.
+/// An answer has as many words as its scheme expects.
 pub fn answers_have_their_length()
     ensures { AnswersHaveTheirLength }
 {}
 
 /// The answer to the query for a record of a version, read under the version's hint, gives the
-/// record, wherever the retrieval is quiet; on a certain shape it always is.
+/// record, if the retrieval is quiet; on a certain shape it always is.
 pub fn retrieval_gives_the_record()
     ensures { RetrievalGivesTheRecord }
 {

@@ -3,11 +3,11 @@
 //! have, the parts in which hints are sent, and queries and readings by scheme.
 //!
 //! A plan and a count of records give a shape; a plan and the records of a version give its digit
-//! matrix, its hints and its answers. What a version's words are is said by these definitions alone
-//! (`specs/Plans`, `specs/Retrievals`), once for both schemes.
+//! matrix, its hints and its answers. Only the definitions in `specs/Plans` and `specs/Retrievals`
+//! say what a version's words are, once for both schemes.
 //!
-//! The tests of both cores, `tests_session::client` and `tests_session::server`, call what it has
-//! for both schemes.
+//! Its tests are those of both cores, which call it for both schemes: `client` and `server` in
+//! tests/long/tests_session.
 #![tactic(auto)]
 
 mod certainty;

@@ -6,7 +6,7 @@ ghost use Rattle.pir_schemes.specs.Parts.{part_of, part_len as words_of_part};
 /// The most words of a part of a hint.
 pub const PART_WORDS: usize = 65_536;
 
-/// The most rows that a delta has. Where more rows of a hint changed, the hint is sent by parts.
+/// The most rows that a delta has. If more rows of a hint changed, the hint is sent by parts.
 pub const DELTA_ROWS: usize = 1024;
 
 /// How many words part `part` of `total` words has: those from 65,536 `part` on, at most 65,536.
@@ -19,7 +19,7 @@ pub fn part_len(total: usize, part: u32) -> usize
 }
 
 /// Part `part` of a hint's words: those from 65,536 `part` on, at most 65,536. `None` exactly when
-/// there are no words so far on.
+/// there is no such part.
 pub fn part_words(words: &[u32], part: usize) -> Option<&[u32]>
     ensures none { IsNone result ↔ (length words.now ≤ 65536 * part) }
     ensures words { IfSome result (λ some. some.now ≡ part_of words.now part) }

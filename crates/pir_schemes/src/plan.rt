@@ -12,14 +12,14 @@ use std::marker::Model;
 /// words hints, queries and answers have, and with the records of a version what these words are.
 #[derive(Clone, Copy, Debug, PartialEq, Eq)]
 pub struct Plan {
-    /// 1 if all records have one length, 2 if each has its own and stands in a slot; 129 and 130
+    /// 1 if all records have one length, 2 if each has its own and is in a slot; 129 and 130
     /// likewise, with a wide digit matrix.
     pub form: u16,
     /// How many bits a digit has.
     pub width: u8,
     /// How many bytes a record has.
     pub record_len: u16,
-    /// How many records stand in a column of the digit matrix.
+    /// How many records a column of the digit matrix has.
     pub groups: u16,
     /// The dimension n of the public matrices: how many words a secret has.
     pub dimension: u16,
@@ -41,8 +41,8 @@ impl Plan {
         }
     }
 
-    /// The sizes of `count` records. They are accepted exactly within the limits; else the first
-    /// cause is named, in the order of [`LayoutError`].
+    /// The sizes of `count` records, accepted exactly when all are within the limits; else the
+    /// first cause is named, in the order of [`LayoutError`].
     pub fn layout(&self, count: usize) -> Result<Layout, LayoutError>
         ensures accepted { IfOk result (λ l. (l ≡ shape_at self.now count) × IsLayout l) }
         ensures refused { IfErr result (IsLayoutFault (shape_at self.now count)) }
@@ -65,8 +65,8 @@ impl Plan {
     }
 }
 
-/// The seed of a client's secrets and noise, which no server learns. Being a type of its own it
-/// can't stand where a public seed is wanted, nor a public one here. A contract sees it as its 32
+/// The seed of a client's secrets and noise, which no server learns. As a type of its own, it can't
+/// be used where a public seed is wanted, nor a public one here. A contract sees it as its 32
 /// bytes.
 #[derive(Clone, Copy)]
 pub struct SecretSeed {

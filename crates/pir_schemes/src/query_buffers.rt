@@ -21,9 +21,9 @@ enum SchemeBuffers {
     Double(double_scheme::QueryBuffers),
 }
 
-/// The memory that a query is made in. It is taken for a scheme, a plan and a count of records: no
-/// index, number or secret seed is known where it is refused. The public matrices are made row by
-/// row where a query is, and not held.
+/// The memory that a query is made in, taken for a scheme, a plan and a count of records: no index,
+/// number or secret seed is known yet when it is refused. The public matrices are made row by row
+/// with each query, and not held.
 ///
 /// A contract sees it as these three.
 #[derive(Drop)]
@@ -56,7 +56,7 @@ impl QueryBuffers {
         ensures { IfOk result (λ room.
             room ≡ record { scheme = scheme; plan = plan.now; count = count }) }
     {
-        // The sizes are within the limits: no refusal is left.
+        // The sizes are within the limits: this can't fail.
         let layout = plan.layout(count).unwrap();
         let n = usize::from(plan.dimension);
         let words = scheme_buffers(alloc, scheme, &layout, n)?;
@@ -67,8 +67,8 @@ impl QueryBuffers {
         })
     }
 
-    /// The query for record i. `number` says which retrieval of the client's seed it is. It takes
-    /// no memory.
+    /// The query for record i. `number` says which retrieval of the client's seed it is. Takes no
+    /// memory.
     #[tactic(auto, unfolding(crate::specs::Retrievals::query_words))]
     pub fn fill<K: Kernel>(self, kernel: K, seed: &SecretSeed, number: u64, i: usize) -> Vec<u32>
         requires number { number < 2 ^ 62 }
@@ -89,8 +89,8 @@ impl QueryBuffers {
         }
     }
 
-    /// The same query. It is made of masks, without the first public matrix, if there are masks
-    /// that serve it.
+    /// The same query, made of masks, without the first public matrix, if there are masks that
+    /// serve it.
     #[tactic(auto, unfolding(crate::specs::Retrievals::query_words))]
     pub fn fill_masked<K: Kernel>(
         self,

@@ -1,4 +1,4 @@
-//! The first layers of several queries, made ahead at once but for what names a record.
+//! The first layers of several queries, made ahead and together, except for what names a record.
 
 ghost use Rattle.std.specs.Prelude.{◌≡◌, ◌↔◌, ◌+◌, ◌^◌, ◌<◌, ◌≤◌, IfOk, IsTrue};
 ghost use Rattle.digit_pack.specs.Layout.{digit_cols, digit_rows};
@@ -36,7 +36,7 @@ impl MasksFor {
         requires { IsPlan plan.now records }
         ensures { IsTrue result ↔ Serve self.now plan.now records seed.now number }
     {
-        // The sizes are within the limits: no refusal is left.
+        // The sizes are within the limits: this can't fail.
         let layout = plan.layout(records).unwrap();
         self.plan == *plan
             && self.cols == layout.cols()
@@ -108,7 +108,7 @@ impl QueryMasks {
           count = count;
         }) }
     {
-        // The sizes are within the limits: no refusal is left.
+        // The sizes are within the limits: this can't fail.
         let layout = plan.layout(records).unwrap();
         let n = usize::from(plan.dimension);
         let room = MaskBuffers::new(alloc, &layout, n, count)?;
@@ -134,7 +134,7 @@ impl QueryMasks {
         self.made.have(plan, records, seed, number)
     }
 
-    /// The query by SimplePIR for record i of retrieval `number`, which is one of them. It takes no
+    /// The query by SimplePIR for record i of retrieval `number`, which is one of them. Takes no
     /// memory.
     pub(crate) fn fill(&self, room: simple_scheme::QueryBuffers, number: u64, i: usize) -> Vec<u32>
         requires low { self.now.first ≤ number }
@@ -151,7 +151,7 @@ impl QueryMasks {
     }
 
     /// The query by DoublePIR for record i of retrieval `number`, which is one of them. The rows of
-    /// the second public matrix are made for it alone. It takes no memory.
+    /// the second public matrix are made for it alone. Takes no memory.
     pub(crate) fn fill_double<K: Kernel>(
         &self,
         kernel: K,

@@ -16,8 +16,8 @@ use std::alloc::Global;
 /// its version.
 ///
 /// `BadLength` exactly when the answer hasn't the scheme's count of words, `BadDigits` exactly when
-/// it has and its digits set a bit past the record's last byte, or their bytes are no slot where
-/// the plan has slots; `Memory` only where it has its words.
+/// it has and its digits set a bit past the record's last byte, or, if the plan has slots, their
+/// bytes are no slot; `Memory` only if it has its words.
 #[tactic(auto, unfolding(crate::specs::Retrievals::reading, crate::specs::Plans::record_of))]
 pub fn recover<K: Kernel>(
     alloc: Global,
@@ -38,7 +38,7 @@ pub fn recover<K: Kernel>(
     requires record { i < count }
     ensures { ReadsRecordOf scheme plan.now count hint.now seed.now number i answer.now result }
 {
-    // The sizes are within the limits: no refusal is left.
+    // The sizes are within the limits: this can't fail.
     let layout = plan.layout(count).unwrap();
     let seed = seed.bytes();
     let bytes = match scheme {
@@ -52,7 +52,7 @@ pub fn recover<K: Kernel>(
     record_in(plan, bytes)
 }
 
-// The record whose bytes in the digits these are. It takes no memory.
+// The record whose bytes in the digits these are. Takes no memory.
 #[tactic(auto, unfolding(crate::specs::Plans::content, crate::specs::Plans::is_slot_of))]
 fn record_in(plan: &Plan, mut bytes: Vec<u8>) -> Result<Vec<u8>, RecoverError>
     ensures record { IfOk result (λ given. (is_slot_of plan.now bytes.items ≡ true)

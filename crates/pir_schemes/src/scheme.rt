@@ -38,7 +38,7 @@ impl Scheme {
         }
     }
 
-    /// The scheme that a byte names, where it names one.
+    /// The scheme that a byte names, if it names one.
     pub fn of_byte(byte: u8) -> Option<Scheme>
         ensures { result ≡ scheme_of_byte byte }
     {

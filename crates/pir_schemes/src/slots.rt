@@ -1,4 +1,4 @@
-//! How a plan's records stand in the bytes that are made digits.
+//! How a plan's records are held in the bytes that are made digits.
 
 ghost use Rattle.std.specs.Prelude.{◌≡◌, ◌*◌, ◌<◌, ◌≤◌, length, take, true, slice_set};
 ghost use Rattle.std.specs.List.{list_all};
@@ -14,7 +14,7 @@ use digit_pack::{
 
 impl Plan {
     /// Whether there is such a form, for records of so many bytes: 1 and 129; 2 and 130 if a record
-    /// has two bytes at least.
+    /// has at least two bytes.
     pub fn has_form(&self) -> bool
         ensures { result ≡ is_form self.now.form self.now.record_len }
     {
@@ -47,8 +47,7 @@ impl Plan {
         }
     }
 
-    /// Whether the bytes of each record are those of one, of records that stand one after another
-    /// in `bytes`.
+    /// Whether the bytes of each record are those of one, of records one after another in `bytes`.
     #[tactic(auto, using(crate::proofs::SlotLists::all_slots))]
     pub fn has_records(&self, layout: &Layout, bytes: &[u8]) -> bool
         requires { length bytes.now ≡ layout.now.count * layout.now.record_len }
@@ -61,7 +60,7 @@ impl Plan {
         }
     }
 
-    /// Writes the bytes that a record has in the digits into `out`, whatever it held. It takes no
+    /// Writes the bytes that a record has in the digits into `out`, whatever it held. Takes no
     /// memory.
     #[tactic(auto, unfolding(crate::specs::Plans::fits, crate::specs::Plans::slot))]
     pub fn fill(&self, bytes: &[u8], out: &mut [u8])
@@ -77,8 +76,8 @@ impl Plan {
         }
     }
 
-    /// Writes another record over record i, of records that stand one after another in `bytes`, and
-    /// changes no other. It takes no memory.
+    /// Writes another record over record i, of records one after another in `bytes`, and changes no
+    /// other. Takes no memory.
     #[tactic(auto, unfolding(crate::specs::Plans::fits, crate::specs::Plans::slot))]
     pub fn write(&self, layout: &Layout, bytes: &mut [u8], i: usize, written: &[u8])
         requires len { layout.now.record_len ≡ self.now.record_len }
@@ -96,7 +95,7 @@ impl Plan {
     }
 
     /// Moves the record that has these bytes in the digits to their beginning, and returns how many
-    /// bytes it has. What follows it is not said. It takes no memory.
+    /// bytes it has. What follows it is unspecified. Takes no memory.
     #[tactic(auto, unfolding(crate::specs::Plans::content, crate::specs::Plans::is_slot_of))]
     pub fn move_content(&self, bytes: &mut [u8]) -> usize
         requires { is_slot_of self.now bytes.old ≡ true }
@@ -107,7 +106,7 @@ impl Plan {
         if !is_slotted(self.form) {
             return bytes.len();
         }
-        // A record fills these bytes: no refusal is left.
+        // A record fills these bytes: this can't fail.
         let len = read_slot(bytes).unwrap();
         bytes.copy_within(2..2 + len, 0);
         len

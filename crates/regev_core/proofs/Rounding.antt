@@ -36,7 +36,7 @@ delta_fits w d h l =
     let m : d + 1 ≤ 2 ^ w = omega arith in
     omega (arith, delta-mul w h, mul-le-mul_left (delta w) m)
 
--- a word that stands for delta d and a noise of u - n, below half of delta
+-- a word that represents delta d and a noise of u - n, below half of delta
 pub nearest_of : (w z u n d : ℕ) → w < 32 → d < 2 ^ w → (z + n) % 2 ^ 32 ≡ (u + delta w * d) % 2 ^ 32 → u < n + delta w / 2 → n ≤ u + delta w / 2 →
     nearest w z ≡ d
 unfolding nearest
@@ -79,7 +79,7 @@ nearest_is w word h =
     let same : z ≡ v % delta w = omega (arith, place_in w word (v / delta w), residue-lt (pos word -ℤ (pos (delta w * (v / delta w)) -ℤ pos (delta w / 2)))) in
     (nearest-lt w word h, omega (arith, same, low))
 
--- the bits of a signed number of 32 bits stand for its residue
+-- the bits of a signed number of 32 bits represent its residue
 pub plus_bits : (x a : ℕ) (z : ℤ) → SFits w32 z → x ≡ a → (x + of_z w32 (to_z w32 (of_z w32 z))) % 2 ^ 32 ≡ (a + residue z) % 2 ^ 32
 plus_bits x a z f e = rw (to_z-of_z w32 z f) (plain x a z f e)
   where

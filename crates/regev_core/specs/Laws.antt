@@ -11,8 +11,8 @@ QuietRowGivesItsDigit = (w : ℕ) (a : WordMatrix) (s : List ℕ) (e : List ℤ)
     w < 32 → length x ≡ a.rows → place < a.rows → slice_index x place < 2 ^ w → IsQuiet w x e →
     nearest w (stripped (dot x (cipher w a s e place)) (vector_times x a) s) ≡ slice_index x place
 
--- row r of a matrix of digits, whose hint is the matrix times the public one, gives its entry where
--- it is quiet
+-- row r of a matrix of digits, whose hint is the matrix times the public one, gives its entry if it
+-- is quiet
 abbrev pub QuietMatrixRowGivesItsEntry : Type 0
 QuietMatrixRowGivesItsEntry = (w : ℕ) (m a : WordMatrix) (s : List ℕ) (e : List ℤ) (r place : ℕ) →
     w < 32 → r < m.rows → m.cols ≡ a.rows → place < a.rows → entry m r place < 2 ^ w → IsQuiet w (row m r) e →

@@ -9,7 +9,7 @@ ghost use Rattle.regev_core.specs.Laws.{
 };
 
 /// A row of digits times a ciphertext, stripped and rounded, is the row's digit at the encrypted
-/// place, wherever the row's noise sum stays below half of delta.
+/// place, if the row's noise sum stays below half of delta.
 pub fn quiet_row_gives_its_digit()
     ensures { QuietRowGivesItsDigit }
 {}

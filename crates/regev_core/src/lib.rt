@@ -4,7 +4,7 @@
 //! A digit has w bits, w in 6..=10; the plaintext modulus is 2^w and delta, the distance of
 //! neighbouring digits among the 2^32 words, is 2^(32 - w). All arithmetic is modulo 2^32.
 //!
-//! Its tests are in `tests`.
+//! Its tests are in tests/long/regev_core.
 #![tactic(auto)]
 
 ghost use Rattle.std.specs.Prelude.{◌≡◌, ◌≤◌, ◌<◌, length};

@@ -8,7 +8,7 @@ use Rattle.seed_expand.specs.Words.{word, source_at, further, source_word, publi
 abbrev pub SourceGivesWords : Type 0
 SourceGivesWords = (seed : List ℕ) (stream place k : ℕ) → source_word (source_at seed stream place) k ≡ word seed stream (place + k)
 
--- a source that stands at the start of a stream gives the rows of its public matrix
+-- a source at the start of a stream gives the rows of its public matrix
 abbrev pub SourceGivesRows : Type 0
 SourceGivesRows = (seed : List ℕ) (stream rows n : ℕ) → source_rows (source_at seed stream 0) rows n ≡ public_rows seed stream 0 rows n
 

@@ -62,7 +62,7 @@ impl WordSource {
         WordSource { rng }
     }
 
-    /// The place of the next word. It is below 2^68.
+    /// The place of the next word, below 2^68.
     pub fn place(&self) -> u128
         ensures value { result ≡ self.now.word_pos }
         ensures bound { self.now.word_pos < 2 ^ 68 }
@@ -127,7 +127,7 @@ pub fn expand(
     ensures { IfOk result (λ m. m ≡ public_rows seed.now stream first_row rows n) }
 {
     let words = stream_words(alloc, seed, stream, (first_row * n) as u64, rows * n)?;
-    // There are rows * n words, and at most 32768 * 1024 of them: no refusal is left.
+    // There are rows * n words, and at most 32768 * 1024 of them: this can't fail.
     Ok(Matrix::from_words(rows, n, words).unwrap())
 }
 

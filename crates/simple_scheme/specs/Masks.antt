@@ -1,5 +1,5 @@
--- What the queries of several retrievals have in common with no record's: products of the public
--- matrix and their secrets.
+-- What in the queries of several retrievals depends on no record: products of the public matrix and
+-- their secrets.
 use Rattle.std.specs.Prelude.{ℕ, ◌+◌, List, slice_index}
 use Rattle.matrix_u32.specs.Sum.{dot}
 use Rattle.matrix_u32.specs.Matrix.{WordMatrix, matrix_of, row}

@@ -13,8 +13,8 @@ use std::alloc::{AllocError, Global};
 // cache while all rows of the public matrix pass.
 const BLOCK: usize = 64;
 
-/// Who makes a hint calls one of these after some rows of it, again and again. No hint is another
-/// for it.
+/// Whoever makes a hint calls one of these after some of its rows, again and again. The hint is the
+/// same with any of them.
 pub trait HintWatcher {
     /// So many rows of the hint are made, of so many in all.
     fn see(&mut self, made: usize, rows: usize);
@@ -29,8 +29,8 @@ impl HintWatcher for Unwatched {
 }
 
 /// The hint of a matrix of digits: the digits times the public matrix `a1`, which has a row for
-/// each column of digits. It has as many rows as the digits, and as many columns as `a1`; a hint of
-/// at most 33,554,432 words is a condition, so that only memory can be wanting.
+/// each column of digits. The hint has as many rows as the digits, and as many columns as `a1`; at
+/// most 33,554,432 words are a condition, so that only refused memory gives an `Err`.
 ///
 /// The digits are read once each, some rows at a time, and these rows are given back before the
 /// next are read.

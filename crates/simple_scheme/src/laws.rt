@@ -5,7 +5,7 @@ ghost use Rattle.simple_scheme.specs.Laws.{QuietSimpleRetrievalReadsTheRecord};
 ghost use Rattle.simple_scheme.specs.Laws.{SimpleCertainShapeIsQuiet};
 
 /// Under the records' own hint, the answer to the query for a record reads as the record's digits,
-/// wherever the retrieval is quiet.
+/// if the retrieval is quiet.
 pub fn quiet_retrieval_reads_the_record()
     ensures { QuietSimpleRetrievalReadsTheRecord }
 {

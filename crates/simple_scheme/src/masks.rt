@@ -13,8 +13,8 @@ use seed_expand::{WordSource, fill_words};
 use std::alloc::{AllocError, Global};
 use std::marker::Model;
 
-/// The memory that masks are made in. It is taken by sizes alone: no number or seed is known where
-/// it is refused.
+/// The memory that masks are made in, taken by sizes alone: no number or seed is known yet when it
+/// is refused.
 ///
 /// A contract sees it as these sizes.
 #[derive(Drop)]
@@ -45,7 +45,7 @@ impl Model for MaskBuffers {
 
 impl MaskBuffers {
     /// Memory for the masks of `count` retrievals on a layout, under a public matrix of `dimension`
-    /// columns. Both are at most 1024, so that only memory can be wanting.
+    /// columns. Both are at most 1024, so that only refused memory gives an `Err`.
     pub fn new(
         alloc: Global,
         layout: &Layout,

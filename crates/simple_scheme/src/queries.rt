@@ -16,8 +16,8 @@ use seed_expand::WordSource;
 use std::alloc::{AllocError, Global};
 use std::marker::Model;
 
-/// The memory that a query is made in. It is taken by sizes alone: no index, number or seed is
-/// known where it is refused.
+/// The memory that a query is made in, taken by sizes alone: no index, number or seed is known yet
+/// when it is refused.
 ///
 /// A contract sees it as these sizes.
 #[derive(Drop)]

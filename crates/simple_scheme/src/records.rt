@@ -25,7 +25,7 @@ pub enum RecoverError {
     /// The digits that the answer reads as set a bit past the record's last byte.
     #[error("the answer's digits set a bit past the record's last byte")]
     BadDigits,
-    /// There is no memory for the secret, the digits or the record.
+    /// Out of memory for the secret, the digits or the record.
     #[error("out of memory")]
     Memory,
 }
@@ -114,8 +114,8 @@ fn read_record<K: Kernel>(
 ///
 /// `BadLength` exactly when the answer hasn't a word for each row; else `Memory`, or the bytes that
 /// the answer's reading writes, `BadDigits` exactly when the digits read set a bit past the
-/// record's last byte. Where the hint and the answer are those of some records and the retrieval is
-/// quiet, it is the record.
+/// record's last byte. If the hint and the answer are those of some records and the retrieval is
+/// quiet, the bytes are the record's.
 pub fn recover<K: Kernel>(
     alloc: Global,
     kernel: K,

@@ -1,4 +1,4 @@
--- Records that stand one after another behind those that are kept.
+-- Records one after another, after those that are kept.
 use Rattle.std.proofs.Common.{◌≡◌, ◌∙◌, ℕ, ◌+◌, ◌-◌, ◌*◌, ◌<◌, ◌≤◌, List, [], ◌++◌, length, take, drop, All, ◌^◌, ap, sym, arith, inl, inr}
 use Rattle.std.proofs.lemmas.Bool.{cases_lt}
 use Rattle.std.proofs.lemmas.List.{get_or_append_left, get_or-append_right, get_or_past, length-append, length-drop, take-append-le, drop-append-le}
@@ -15,7 +15,8 @@ use Rattle.version_store.proofs.KeptBytes.{below_count}
 use Rattle.version_store.proofs.KeptDigits.{is_kept, bytes_back}
 use Rattle.version_store.proofs.Versions.{long_records}
 
--- records whose bytes stand behind those of others have the digits that both have
+-- the records of some bytes, and then those of others, have the digits of the records of both
+-- together
 pub joined_digits : (l : Shape) (n k : ℕ) (a b : List ℕ) → length a ≡ n * l.record_len → length b ≡ k * l.record_len →
     digit_matrix l (records_in (counted l n) a ++ records_in (counted l k) b) ≡ digit_matrix l (records_in (counted l (n + k)) (a ++ b))
 joined_digits l n k a b long_a long_b = same_digits l (xs ++ ys) zs (λ j. elim (cases_lt j n) [

@@ -39,7 +39,7 @@ pub run_end : (b m k r len total : ℕ) → b + m ≤ k → r ≡ len → total 
 run_end b m k r len total fits same is =
     omega (arith, mul-le-mul_right r fits, add_times b m r, ap (λ x. k * x) same, is)
 
--- a record among them is the one that stands there
+-- a record among them is the one that is there
 pub record_of_run : (l : Shape) (k m b i r : ℕ) (bytes : List ℕ) → r ≡ l.record_len → b + m ≤ k → i < m →
     record_at (records_in (counted l m) (take (b * r + m * r - b * r) (drop (b * r) bytes))) i ≡ record_at (records_in (counted l k) bytes) (b + i)
 record_of_run l k m b i r bytes same fits lt =
@@ -204,7 +204,7 @@ module _ (l : Shape) (k : ℕ) (xs ys : List (List ℕ)) (layout : IsLayout l) (
       (λ q lt. ended (q % l.groups) from to (q / l.groups) n (record_at ys q) [] le
       (omega (arith, all, column_inside (counted l k) q (fewer_records l k layout (omega (arith, lt)) (omega (arith, few))) lt))))
 
-  -- what stands before column n of the block, or above it
+  -- what is before column n of the block, or above it
   unchanged_before : (n p : ℕ) → p < n * l.groups + from → record_at (block n) p ≡ record_at (block (n + 1)) p
   unchanged_before n p lt = elim (cases_lt p k) [
     | inl is ↦
@@ -223,7 +223,7 @@ module _ (l : Shape) (k : ℕ) (xs ys : List (List ℕ)) (layout : IsLayout l) (
     | inr out ↦ beyond n p out ∙ sym (beyond (n + 1) p out)
   ]
 
-  -- what stands after it, or below it
+  -- what is after it, or below it
   unchanged_after : (n p : ℕ) → (p < k → n * l.groups + to ≤ p) → record_at (block n) p ≡ record_at (block (n + 1)) p
   unchanged_after n p after = elim (cases_lt p k) [
     | inl is ↦

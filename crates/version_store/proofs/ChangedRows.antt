@@ -29,8 +29,7 @@ same_digit l a b r j p q e =
     ∙ ap (λ (bytes : List ℕ). digit l.width (number_of 8 bytes) (r % digits_per_record l)) e
     ∙ sym (entry-matrix_of (digit_rows l) (digit_cols l) (digit_at l b) r j p q)
 
--- a row that is as at first after record i is replaced was so before, where the record was as at
--- first
+-- a row that is as at first after record i is replaced was so before, if the record was as at first
 settled_digits : (l : Shape) (a b : List (List ℕ)) (i : ℕ) (bytes : List ℕ) → record_at b i ≡ record_at a i → (r : ℕ) → r < digit_rows l →
     row (digit_matrix l (slice_set b i bytes)) r ≡ row (digit_matrix l a) r → row (digit_matrix l b) r ≡ row (digit_matrix l a) r
 settled_digits l a b i bytes same r p e =

@@ -54,7 +54,7 @@ hint_blanks p n records ok le =
     ∙ sym (hint_is p (grown p n records))
     ∙ hint-grown p n records ok.form ok.layout.groups.0 le
 
--- what is answered
+-- what is returned
 pub given : (reaches : Bool) (most : ℕ) (bytes entries : List ℕ) → cond reaches (at_most most bytes) None ≡ Some entries → entries ≡ bytes
 given true most bytes entries e = by (nat_le (length bytes) most) e
   where

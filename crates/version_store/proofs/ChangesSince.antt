@@ -23,7 +23,7 @@ use Rattle.version_store.proofs.OldsKept.{back_to}
 abbrev pub at_most : ℕ → List ℕ → Option (List ℕ)
 at_most most bytes = cond (nat_le (length bytes) most) (Some bytes) None
 
--- what a log answers
+-- what a log returns
 pub made_is : (made : Option (Vec ℕ Global)) (entries : List ℕ) (most : ℕ) → IfSome made (λ v. v.items ≡ entries) →
     IsNone made ↔ (most < length entries) → option_map (λ v. v.items) made ≡ at_most most entries
 made_is None entries most are none =

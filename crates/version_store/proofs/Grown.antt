@@ -226,7 +226,7 @@ past_columns l j x some le =
     let q : ℕ = digit_cols l in
     omega (arith, mul-le-mul_left l.groups le, some)
 
--- more records stand in as many columns or more
+-- more records take as many columns or more
 pub more_columns : (p : Plan) (k n : ℕ) → 0 < p.groups → k ≤ n → digit_cols (shape_at p k) ≤ digit_cols (shape_at p n)
 more_columns p k n some le =
     let a : ℕ = digit_cols (shape_at p k) in

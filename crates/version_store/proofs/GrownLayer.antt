@@ -1,4 +1,4 @@
--- What is made from records, after blanks were put behind them.
+-- What is made from records, once blanks were put after them.
 use Rattle.std.proofs.Common.{◌≡◌, ◌∙◌, ℕ, ◌+◌, ◌-◌, ◌*◌, ◌≤◌, List, ◌++◌, true, length, take, map, replicate, sym, ap, subst, arith}
 use Rattle.std.specs.List.{list_all}
 use Rattle.std.proofs.lemmas.Bool.{and_from}

@@ -1,4 +1,4 @@
--- What a store stands for after an edit, an append and a publication.
+-- What a store represents after an edit, an append and a publication.
 use Rattle.std.proofs.Common.{◌≡◌, ℕ, ◌+◌, arith, ap, ◌∙◌, sym, refl, List, [], ◌∷◌, ◌++◌, length, take, lit≤, Option}
 use Rattle.std.proofs.lemmas.List.{length-set, length_push, take-take}
 use Rattle.std.specs.Prelude.{slice_set}
@@ -109,7 +109,7 @@ held_as_history s h since stands =
     ∙ ap (at (current_version h)) (sym stands.log)
     ∙ sym (rows_as_logged p h since)
 
--- a store stands for its history after any changes
+-- a store represents its history after any changes
 pub run_stands : (changes : List Change) (s : StoreState) (h : History) → StandsFor s h → StandsFor (held_after changes s) (history_after changes h)
 run_stands [] s h stands = stands
 run_stands (Edited i bytes ∷ more) s h stands =

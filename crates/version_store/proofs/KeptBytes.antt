@@ -1,4 +1,4 @@
--- The bytes of records that stand in digits alone, or beside them.
+-- The bytes of records that are in digits alone, or beside them.
 use Rattle.std.proofs.Common.{◌≡◌, ◌∙◌, ℕ, suc, ◌+◌, ◌-◌, ◌*◌, ◌^◌, ◌<◌, ◌≤◌, lit<, replicate, List, [], ◌∷◌, ◌++◌, All, Bool, true, false, cond, length, take, drop, slice_set, refl, sym, ap, subst, arith, inl, inr}
 use Rattle.std.proofs.Math.Nat.{mul-le-mul_right}
 use borrow.Rule.Slice.PartMut.{put_mid, post_of}

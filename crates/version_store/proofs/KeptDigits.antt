@@ -147,7 +147,7 @@ made_wider l m xs some few =
 pub all_taken : (n count r : ℕ) → 1 ≤ r → n * r ≡ count * r → n ≡ count
 all_taken n count r some e = sym (mul-div_cancel n some) ∙ ap (λ (x : ℕ). x / r) e ∙ mul-div_cancel count some
 
--- more records stand in as many columns or more
+-- more records take as many columns or more
 pub wider_columns : (l : Shape) (m : ℕ) → 0 < l.groups → l.count ≤ m → digit_cols l ≤ digit_cols (counted l m)
 wider_columns l m some le =
     le-div (digit_cols l) (m + l.groups - 1) l.groups some (omega (arith, div-mul-le_self (l.count + l.groups - 1) l.groups, le))

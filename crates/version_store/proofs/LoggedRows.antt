@@ -22,8 +22,8 @@ union_below n lists = filter (λ r. list_any (nat_eq r) (flat_map (λ list. list
 abbrev pub reaches_back : Log → ℕ → Bool
 reaches_back log v = nat_le v log.version && nat_le (log.version - v) (length log.lists)
 
--- the rows, of n, that the publications since a version changed, ascending; none where the log
--- lacks one of these
+-- the rows, of n, that the publications since a version changed, ascending; none if the log lacks
+-- one of these
 unfoldable pub rows_logged : ℕ → Log → ℕ → Option (List ℕ)
 rows_logged n log v = if reaches_back log v then Some (union_below n (lists_since log v)) else None
 
@@ -77,7 +77,7 @@ swap true false = refl
 swap false true = refl
 swap false false = refl
 
--- a row is in one of the newest k lists exactly where one of the newest k pairs of versions differs
+-- a row is in one of the newest k lists exactly when one of the newest k pairs of versions differs
 -- in it
 in_newest : (p : Plan) (h : History) (r k : ℕ) → k ≤ length h.past →
     list_any (nat_eq r) (flat_map (λ list. list) (take k (changes_of p h.current h.past)))
@@ -107,7 +107,7 @@ in_newest p h r (suc k) le =
     ∙ ap (λ (xs : List ℕ). list_any (nat_eq r) xs || list_any (nat_eq r) (flat_map (λ list. list) before)) (sym (next_is p h v k back (omega arith)))
     ∙ ap (λ (b : Bool). list_any (nat_eq r) (next_changes p h v) || b) (sym later)
 
--- ---- the log reaches back to a version exactly where it is a recent one
+-- ---- the log reaches back to a version exactly when it is a recent one
 
 same_test : (a b : Bool) → (a ≡ true → b ≡ true) → (b ≡ true → a ≡ true) → a ≡ b
 same_test true b f g = sym (f refl)
@@ -143,7 +143,7 @@ rows_as_logged p h since = by (reaches_back (log_of p h) since) refl
     n : ℕ
     n = digit_rows (shape_at p (length h.current))
 
-    -- the same rows, where the log reaches back
+    -- the same rows, if the log reaches back
     same : reaches_back (log_of p h) since ≡ true → filter (changed_since p h since) (range_with_len 0 n) ≡ union_below n (lists_since (log_of p h) since)
     same e =
         let now : ℕ = current_version h in

@@ -47,7 +47,7 @@ fresh_row old new first col n words h below =
     (λ j l. h.elsewhere (first + n) j below (omega (arith, h.cols)) (λ x. absurd (omega (arith, x.2))))
     ∙ ap (λ c. list_of c (λ j. entry old (first + n) j)) h.cols
 
--- one digit that is written in a row that was not changed before, with a mark where it changes
+-- one digit that is written in a row that was not changed before, with a mark if it changes
 pub one_marked : (d0 d : WordMatrix) (f0 f : List Bool) (i j v old : ℕ) → IsWhole d → d.rows ≡ d0.rows → d.cols ≡ d0.cols → d.rows ≡ length f →
     i < d.rows → j < d.cols → old ≡ entry d i j → row d i ≡ row d0 i →
     MarksChanges d0 d f0 f → MarksChanges d0 (with_entry d i j v) f0 (slice_set f i (is_marked f i || not (eqb old v)))

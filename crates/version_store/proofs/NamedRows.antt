@@ -22,8 +22,8 @@ some_alike e = cc
 abbrev rows_now : Plan → History → ℕ
 rows_now p h = digit_rows (shape_at p (length h.current))
 
--- they are all rows of some lists, and a row of none of these is the same in the hints of the
--- version named and of the current one
+-- the rows of some lists; a row of none of these lists is the same in the hints of the version
+-- named and of the current one
 pub record NamesRows (p : Plan) (h : History) (before : List (List ℕ)) (rows : List ℕ) : Type 0 where
   pub lists : List (List ℕ)
   pub rows_are : rows ≡ union_below (digit_rows (shape_at p (length h.current))) lists

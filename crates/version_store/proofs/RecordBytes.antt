@@ -21,7 +21,7 @@ pieces_joined r bytes s (suc n) =
     ∙ sym (take-add r (n * r) first)
     ∙ ap (λ k. take k first) longer
 
--- the bytes of the records that stand in bytes
+-- the bytes of the records that bytes hold
 pub joined_records : (l : Shape) (bytes : List ℕ) → length bytes ≡ l.count * l.record_len → bytes_of_records (records_in l bytes) ≡ bytes
 joined_records l bytes long =
     let none : 0 * l.record_len ≡ 0 = omega arith in

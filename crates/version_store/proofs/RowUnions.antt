@@ -143,7 +143,7 @@ rows_are_union n lists rows below h =
     same_rising rows (filter (is_in joined) all) (rises rows h.ascending)
     (rises (filter (is_in joined) all) (IsStrictlyIncreasing-filter (is_in joined) all (range_rises 0 n))) same
 
--- ---- what a log answers
+-- ---- what a log returns
 pub reaches : (log : Log) (v : ℕ) → reaches_back log v ≡ true → ReachesBack log v
 reaches log v e =
     let parts = and_parts (nat_le v log.version) (nat_le (log.version - v) (length log.lists)) e in

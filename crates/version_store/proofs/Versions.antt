@@ -1,4 +1,4 @@
--- The shape of a version, whose records stand one after another in bytes, and what is made from it.
+-- The shape of a version, whose records are one after another in bytes, and what is made from it.
 use Rattle.std.proofs.Common.{◌≡◌, ◌∙◌, ℕ, ap, List, length, ◌*◌, take, drop}
 use Rattle.std.proofs.lemmas.List.{length-map}
 use Rattle.matrix_u32.specs.Matrix.{product}

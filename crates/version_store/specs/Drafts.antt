@@ -14,11 +14,11 @@ use Rattle.version_store.specs.Editions.{Records, version_shape, grown}
 abbrev pub Changes : Type 0
 Changes = List (ℕ × Vec ℕ Global)
 
--- the changed record at an index, where there is one
+-- the changed record at an index, if there is one
 abbrev pub change_at : Changes → ℕ → Option (Vec ℕ Global)
 change_at changes i = lookup (is_at (nat_cmp i)) changes
 
--- the bytes of a change, and others where there is none
+-- the bytes of a change, and others if there is none
 abbrev pub bytes_or : Option (Vec ℕ Global) → List ℕ → List ℕ
 bytes_or None bytes = bytes
 bytes_or (Some v) bytes = v.items

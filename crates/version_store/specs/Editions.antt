@@ -21,7 +21,7 @@ pub record Records : Type 0 where
 abbrev pub version_shape : Records → Shape
 version_shape e = shape_at e.plan (length e.records)
 
--- a record before its bytes are given: none, or where all records have one length so many zeros
+-- a record before its bytes are given: none, or if all records have one length, so many zeros
 abbrev pub blank : Plan → List ℕ
 blank p = if is_slotted p.form then [] else replicate p.record_len 0
 
@@ -90,8 +90,8 @@ pub record IsRowChange (hint a1 old new : WordMatrix) (marks : List Bool) : Type
   pub hint_is : hint ≡ product new a1
   pub kept : (r : ℕ) → r < new.rows → is_marked marks r ≡ false → row new r ≡ row old r
 
--- of every two such matrices: where both hints of DoublePIR were made from the old one, they are
--- now made from the new one
+-- for every two such matrices: if both hints of DoublePIR were made from the old one, they are now
+-- made from the new one
 abbrev pub FollowsRows : ℕ → WordMatrix → WordMatrix → WordMatrix → WordMatrix → WordMatrix → WordMatrix → List Bool → Type 0
 FollowsRows w hint a2 server_before server_after client_before client_after marks =
     (old new a1 : WordMatrix) → IsRowChange hint a1 old new marks →

@@ -128,7 +128,7 @@ pub record StandsFor (s : StoreState) (h : History) : Type 0 where
   pub growing : AreGrowing h.draft (h.current ∷ h.past)
 
 -- ---- what publications changed
--- the records of a version, and none where there is no such version
+-- the records of a version, and none if there is no such version
 abbrev pub version_records : History → ℕ → List (List ℕ)
 version_records h v = unwrap_or (records_of h v) []
 
@@ -145,7 +145,7 @@ abbrev pub is_recent : History → ℕ → Bool
 is_recent h v = nat_le h.first v && (nat_le v (current_version h) && nat_le (current_version h - v) 16)
 
 -- The rows of digits in which some two consecutive versions from one to the current one differ,
--- ascending, each once; none where that one is neither the current version nor one of the 16 before
+-- ascending, each once; none if that one is neither the current version nor one of the 16 before
 -- it.
 unfoldable pub delta_rows : Plan → History → ℕ → Option (List ℕ)
 delta_rows p h since =
@@ -153,7 +153,7 @@ delta_rows p h since =
     else None
 
 -- what differs between a version and the current one, as entries: of the bytes that records have in
--- the digits, where blanks stand for records that were appended since
+-- the digits, with blanks for records that were appended since
 abbrev pub entries_between : Plan → History → ℕ → List ℕ
 entries_between p h since =
     entries_bytes (changes_between (slots_with_blanks p (length h.current) (version_records h since)) (slots p h.current))

@@ -15,7 +15,7 @@ pub record KeptRecords : Type 0 where
 abbrev pub counted : Shape → ℕ → Shape
 counted l n = record l { count = n }
 
--- those of some records that stand in the first g places of their columns; the others are blank
+-- those of some records that are in the first g places of their columns; the others are blank
 abbrev pub records_of_groups : Shape → List (List ℕ) → ℕ → List (List ℕ)
 records_of_groups l xs g = list_of l.count (λ k. if nat_lt (k % l.groups) g then record_at xs k else [])
 

@@ -16,7 +16,7 @@ use Rattle.snapshot_file.specs.Snapshots.{shape_of}
 use Rattle.version_store.specs.Openings.{IsSound, plan_held}
 use Rattle.version_store.specs.Histories.{AreGrowing, StoreState, History, StandsFor, Change, changes_since, history_after, held_after, records_of, delta_rows}
 
--- after any accepted edits, appends and publications a store stands for its history after them
+-- after any accepted edits, appends and publications a store represents its history after them
 abbrev pub EachRunStands : Type 0
 EachRunStands = (changes : List Change) (s : StoreState) (h : History) → StandsFor s h → StandsFor (held_after changes s) (history_after changes h)
 

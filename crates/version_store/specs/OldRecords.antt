@@ -21,7 +21,7 @@ olds_between before after = map old_of (changes_between before after)
 abbrev pub slots_with_blanks : Plan → ℕ → List (List ℕ) → List (List ℕ)
 slots_with_blanks p n records = slots p (grown p n records)
 
--- the old bytes of the records that a version changes of the one before it; blanks stand for those
+-- the old bytes of the records that a version changes of the one before it, with blanks for those
 -- that were appended
 unfoldable pub olds_replaced : Plan → List (List ℕ) → List (List ℕ) → List OldRecord
 olds_replaced p before after = olds_between (slots_with_blanks p (length after) before) (slots p after)

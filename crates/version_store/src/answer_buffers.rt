@@ -7,8 +7,8 @@ use digit_pack::Layout;
 use pir_schemes::Scheme;
 use std::alloc::{AllocError, Global};
 
-/// The memory that an answer of a scheme is made in. It is taken by sizes alone: where it is
-/// refused, no word of a query was looked at.
+/// The memory that an answer of a scheme is made in, taken by sizes alone: if it is refused, no
+/// word of a query was looked at.
 #[derive(Drop)]
 pub enum AnswerBuffers {
     /// For a SimplePIR answer: a word for each row of digits.

@@ -13,7 +13,7 @@ use snapshot_file::{RecordSink, RecordSource};
 use std::alloc::{AllocError, Global};
 use std::marker::Model;
 
-/// How many bytes of records that stand together are written before those of the next column: one
+/// How many bytes of records that are together are written before those of the next column: one
 /// line of a processor's cache.
 const BLOCK_LEN: usize = 64;
 
@@ -77,8 +77,7 @@ impl DigitRecords {
         })
     }
 
-    /// The records of a layout that stand one after another in `bytes`. Only refused memory gives
-    /// an `Err`.
+    /// The records of a layout, one after another in `bytes`. Only refused memory gives an `Err`.
     pub fn from_bytes(
         alloc: Global,
         layout: Layout,
@@ -98,7 +97,7 @@ impl DigitRecords {
         })
     }
 
-    /// Puts other bytes in the place of record i. It takes no memory.
+    /// Puts other bytes in the place of record i. Takes no memory.
     pub fn replace(&mut self, i: usize, bytes: &[u8])
         requires index { i < self.old.shape.count }
         requires whole { length self.old.bytes ≡
@@ -115,7 +114,7 @@ impl DigitRecords {
     /// Puts a record after the last one: `layout` is that of one record more. Only refused memory
     /// gives an `Err`, and then nothing has changed.
     ///
-    /// Memory is taken only where a row of digits becomes a word longer, once in three further
+    /// Memory is taken only when a row of digits becomes a word longer, once in three further
     /// columns.
     pub fn push(&mut self, layout: Layout, bytes: &[u8]) -> Result<(), AllocError>
         requires whole { length self.old.bytes ≡
@@ -145,9 +144,9 @@ impl DigitRecords {
     }
 }
 
-// Writes the digits of `count` records, which stand one after another in `bytes`, into the places
-// of records from `first` on: some groups, whose rows are near one another, in all of their
-// columns, then the next ones.
+// Writes the digits of `count` records, one after another in `bytes`, into the places of records
+// from `first` on: some groups, whose rows are near one another, in all of their columns, then the
+// next ones.
 fn write_records(layout: &Layout, digits: &mut Digits, first: usize, count: usize, bytes: &[u8])
     requires inside { first + count ≤ layout.now.count }
     requires len { length bytes.now ≡ count * layout.now.record_len }
@@ -168,7 +167,7 @@ fn write_records(layout: &Layout, digits: &mut Digits, first: usize, count: usiz
 }
 
 // Writes the digits of the groups `from` up to `to` of those records, one column after another: the
-// bytes of those in one column stand together, in a line of the cache.
+// bytes of those in one column are together, in a line of the cache.
 fn write_block(
     layout: &Layout,
     digits: &mut Digits,
@@ -204,9 +203,9 @@ fn write_block(
     }
 }
 
-// Writes the digits of `count` records, which stand one after another in `bytes`, into the places
-// of records from `at` on, one below another. Where the first of them stands is found by division,
-// and no other's, so that records of one byte cost no more than to write them.
+// Writes the digits of `count` records, one after another in `bytes`, into the places of records
+// from `at` on, one below another. The place of the first of them is found by division, and no
+// other's, so that records of one byte cost no more than to write them.
 fn write_run(layout: &Layout, digits: &mut Digits, at: usize, count: usize, bytes: &[u8])
     requires inside { at + count ≤ layout.now.count }
     requires len { length bytes.now ≡ count * layout.now.record_len }
@@ -252,7 +251,7 @@ fn write_place(layout: &Layout, digits: &mut Digits, i: usize, bytes: &[u8])
 }
 
 // Writes the digits of a record's bytes into a column, from row `first` down. What `packed`, room
-// for them, holds afterwards is not said.
+// for them, holds afterwards is unspecified.
 fn write_column(
     layout: &Layout,
     digits: &mut Digits,

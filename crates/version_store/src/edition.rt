@@ -166,8 +166,7 @@ impl<K: Kernel> Edition<K> {
         self.server.words()
     }
 
-    /// Memory for the answer to a query. It is taken by sizes alone. Only refused memory gives an
-    /// `Err`.
+    /// Memory for the answer to a query, taken by sizes alone. Only refused memory gives an `Err`.
     pub fn answer_buffers(&self, alloc: Global, scheme: Scheme) -> Result<AnswerBuffers, AllocError>
         ensures scheme { IfOk result (λ room. scheme_answered room ≡ scheme) }
         ensures sizes { IfOk result (λ room.
@@ -177,7 +176,7 @@ impl<K: Kernel> Edition<K> {
         AnswerBuffers::new(alloc, scheme, self.layer.layout(), dimension)
     }
 
-    /// The answer to the words of a query of the room's scheme. It takes no memory.
+    /// The answer to the words of a query of the room's scheme. Takes no memory.
     pub fn answer_in(&self, room: AnswerBuffers, words: &[u32]) -> Vec<u32>
         requires words { length words.now ≡
             query_count (scheme_answered room) (version_shape self.now) }
@@ -279,8 +278,8 @@ impl<K: Kernel> Edition<K> {
         self.prepared.clear();
     }
 
-    /// Puts blanks after the records, so many in all: the digits get columns of zeros, and no hint
-    /// changes. Only refused memory gives an `Err`, and then nothing has changed.
+    /// Puts blanks after the records, up to `count` in all: the digits get columns of zeros, and no
+    /// hint changes. Only refused memory gives an `Err`, and then nothing has changed.
     pub fn grow(&mut self, alloc: Global, count: usize) -> Result<(), AllocError>
         requires more { length self.old.records ≤ count }
         requires layout { IsLayout (shape_at self.old.plan count) }
@@ -296,10 +295,10 @@ impl<K: Kernel> Edition<K> {
 
     /// Puts each change into the records, marks the rows whose digits change, and leaves no change.
     /// `scratch` has room for a record's digits, `marks` a mark for each row of digits, and `rows`
-    /// is what rows that change together want; what `scratch` and `rows` held is lost.
+    /// is what rows that change together need; what `scratch` and `rows` held is lost.
     ///
     /// The hint of SimplePIR follows each digit that changes; those of DoublePIR follow each row
-    /// that has one, once, many rows together. It takes no memory.
+    /// that has one, once, many rows together. Takes no memory.
     pub fn apply(
         &mut self,
         changes: &mut Changes,

@@ -33,8 +33,8 @@ use std::alloc::{AllocError, Global};
 use std::marker::Model;
 
 /// How many digits a step of a SimplePIR answer reads, unless one row has more: 2^23, which a
-/// processor of today multiplies in one to three milliseconds, also by two words each. They stay in
-/// its last cache, where a step finds them that multiplies the same rows by other queries.
+/// processor of today multiplies in one to three milliseconds, also by two words each. The digits
+/// stay in its last cache, where a step that multiplies the same rows by other queries finds them.
 pub(crate) const STEP_DIGITS: usize = 8_388_608;
 
 /// What keeps the digits: three in a word.
@@ -167,7 +167,7 @@ impl FirstLayer {
     }
 
     /// Writes the bytes that record i has in the digits into `out`, whatever it held: in forms of
-    /// slots those of its slot. It takes no memory.
+    /// slots those of its slot. Takes no memory.
     pub fn copy_slot(&self, i: usize, out: &mut [u8])
         requires index { i < length self.now.records }
         requires room { length out.old ≡ self.now.plan.record_len }
@@ -278,9 +278,9 @@ impl FirstLayer {
         made + count
     }
 
-    /// Puts blanks after the records, so many in all: the digits get columns of zeros, and the hint
-    /// stays. Only refused memory gives an `Err`, and then nothing has changed; the public matrix
-    /// may have got its further rows already.
+    /// Puts blanks after the records, up to `count` in all: the digits get columns of zeros, and
+    /// the hint stays. Only refused memory gives an `Err`, and then nothing has changed; the public
+    /// matrix may have got its further rows already.
     pub fn grow(&mut self, alloc: Global, count: usize) -> Result<(), AllocError>
         requires more { length self.old.records ≤ count }
         requires layout { IsLayout (shape_at self.old.plan count) }
@@ -340,7 +340,7 @@ impl FirstLayer {
     }
 }
 
-// Writes other bytes over those of record i, where the bytes of records are kept.
+// Writes other bytes over those of record i, if the bytes of records are kept.
 fn keep_record(form: u16, layout: &Layout, kept: &mut [u8], i: usize, slot: &[u8])
     requires count { is_wide form ≡ false →
         length kept.old ≡ layout.now.count * layout.now.record_len }
@@ -355,8 +355,8 @@ fn keep_record(form: u16, layout: &Layout, kept: &mut [u8], i: usize, slot: &[u8
     }
 }
 
-// Takes memory for the bytes of a layout's records, where they are kept. Only refused memory gives
-// an `Err`.
+// Takes memory for the bytes of a layout's records, if they are kept. Only refused memory gives an
+// `Err`.
 fn reserve_kept(form: u16, layout: &Layout, kept: &mut Vec<u8>) -> Result<(), AllocError>
     requires fewer { is_wide form ≡ false →
         length kept.old.items ≤ layout.now.count * layout.now.record_len }
@@ -371,7 +371,7 @@ fn reserve_kept(form: u16, layout: &Layout, kept: &mut Vec<u8>) -> Result<(), Al
     Ok(())
 }
 
-// Puts zeros after the bytes that are kept, where they are, up to those of a layout's records.
+// Puts zeros after the bytes that are kept, if any are, up to those of a layout's records.
 fn grow_kept(form: u16, layout: &Layout, kept: &mut Vec<u8>)
     requires fewer { is_wide form ≡ false →
         length kept.old.items ≤ layout.now.count * layout.now.record_len }
@@ -387,7 +387,7 @@ fn grow_kept(form: u16, layout: &Layout, kept: &mut Vec<u8>)
     }
 }
 
-// Gives the first public matrix so many rows at least. Only refused memory gives an `Err`, and then
+// Gives the first public matrix at least so many rows. Only refused memory gives an `Err`, and then
 // it is as it was.
 fn extend_public(alloc: Global, plan: &Plan, a1: &mut Matrix, rows: usize) -> Result<(), AllocError>
     requires few { rows ≤ 32768 }

@@ -21,8 +21,8 @@ pub enum HeldRecords {
 }
 
 impl HeldRecords {
-    /// The records of a form and a layout that stand one after another in `bytes`. Only refused
-    /// memory gives an `Err`.
+    /// The records of a form and a layout, one after another in `bytes`. Only refused memory gives
+    /// an `Err`.
     pub fn from_bytes(
         alloc: Global,
         form: u16,
@@ -41,7 +41,7 @@ impl HeldRecords {
         Ok(HeldRecords::Bytes(bytes))
     }
 
-    /// Puts other bytes in the place of record i. It takes no memory.
+    /// Puts other bytes in the place of record i. Takes no memory.
     pub fn replace(&mut self, layout: &Layout, i: usize, bytes: &[u8])
         requires shape { HasShape layout.now self.old }
         requires index { i < layout.now.count }
@@ -79,7 +79,7 @@ impl HeldRecords {
         }
     }
 
-    /// Writes the bytes of record i into `out`, whatever it held. It takes no memory.
+    /// Writes the bytes of record i into `out`, whatever it held. Takes no memory.
     pub fn copy_record(&self, layout: &Layout, i: usize, out: &mut [u8])
         requires shape { HasShape layout.now self.now }
         requires whole { length (bytes_held_by self.now) ≡
@@ -120,7 +120,7 @@ impl HeldRecords {
     }
 }
 
-// The digits of records that stand one after another in `bytes`.
+// The digits of records one after another in `bytes`.
 fn digits_of(alloc: Global, layout: &Layout, bytes: &[u8]) -> Result<Digits, AllocError>
     requires { length bytes.now ≡ layout.now.count * layout.now.record_len }
     ensures digits { IfOk result (λ digits.

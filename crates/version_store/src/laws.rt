@@ -4,8 +4,8 @@
 ghost use Rattle.version_store.specs.Laws.{ChangesMoveTheHint, EachRunStands, MigratedRecordsStay};
 ghost use Rattle.version_store.specs.Laws.{UnchangedRowsStay, WidenedRecordsStay};
 
-/// A store that stands for a history stands, after any accepted edits, appends and publications,
-/// for that history after them.
+/// A store that represents a history represents, after any accepted edits, appends and
+/// publications, that history after them.
 pub fn each_run_stands()
     ensures { EachRunStands }
 {}
@@ -16,7 +16,7 @@ pub fn unchanged_rows_stay()
     ensures { UnchangedRowsStay }
 {}
 
-/// What a store answers of the changes since a version moves that version's SimplePIR hint to the
+/// What a store returns of the changes since a version moves that version's SimplePIR hint to the
 /// current one.
 pub fn changes_move_the_hint()
     ensures { ChangesMoveTheHint }

@@ -102,7 +102,7 @@ pub fn olds_log(alloc: Global, layout: &Layout, dimension: u16) -> Result<Record
     RecordLog::new(alloc, layout.record_len(), most)
 }
 
-/// Keeps the old bytes of a publication, if there are any to keep. It takes no memory.
+/// Keeps the old bytes of a publication, if there are any to keep. Takes no memory.
 pub fn keep_olds(log: &mut RecordLog, olds: Option<OldRecords>)
     requires { IfSome olds (λ newest. newest.record_len ≡ log.old.record_len) }
     ensures { log.new ≡ with_newest log.old olds }

@@ -26,7 +26,7 @@ pub enum OpenError {
     /// are no slot.
     #[error("the records have another number of bytes, or one of them is no slot")]
     BadRecords,
-    /// There is no memory for what is made from the records.
+    /// Out of memory for what is made from the records.
     #[error("out of memory")]
     Memory,
 }
@@ -77,7 +77,7 @@ pub(crate) fn plan_of(header: &Header) -> Plan
     }
 }
 
-/// The sizes of a snapshot's records, where a store can be opened with it.
+/// The sizes of a snapshot's records, if a store can be opened with it.
 pub(crate) fn sizes_of(snapshot: &Snapshot) -> Result<Layout, OpenError>
     ensures sizes { IfOk result (λ l. (l ≡ shape_of (header_of snapshot.now)) × IsLayout l) }
     ensures sound { OnOk result (IsSound (header_of snapshot.now) snapshot.now.records.items) }

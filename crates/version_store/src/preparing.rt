@@ -224,7 +224,7 @@ impl Preparations {
     // Lets them go: in a function of its own, so that no other one has to.
     fn give_up(self) {}
 
-    // These answers and one more, which is dropped if there are four.
+    // The answers that were begun and one more, which is dropped if there are four.
     fn with(self, one: Preparation) -> Preparations
         ensures { (e : Records) → ArePrepared e self → IsMakingFor e one.query.items one.making →
             ArePrepared e result }
@@ -307,7 +307,7 @@ impl Preparations {
     }
 }
 
-// What stands in a place, into which one more is put if it is empty, and what is left of that one.
+// What is in a place, into which one more is put if it is empty, and what is left of that one.
 fn put_in(
     place: Option<Preparation>,
     one: Option<Preparation>,

@@ -16,8 +16,7 @@ pub fn marks_for(alloc: Global, layout: &Layout) -> Result<Vec<bool>, AllocError
     vec![in alloc; false; layout.rows()]
 }
 
-/// Adds the rows that are marked, ascending, to `rows`, which has room for them. It takes no
-/// memory.
+/// Adds the rows that are marked, ascending, to `rows`, which has room for them. Takes no memory.
 pub fn push_marked(marks: &[bool], rows: &mut Vec<u32>)
     requires few { length marks.now ≤ 2 ^ 32 }
     requires room { vec_len rows.old + length marks.now ≤ vec_capacity rows.old }

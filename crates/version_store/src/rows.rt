@@ -16,7 +16,7 @@ use std::alloc::{AllocError, Global};
 /// near the processor while the client's hint passes once for all of them.
 const ROWS_TOGETHER: usize = 128;
 
-/// Memory for the changed rows that are taken together: their numbers, and what their update wants.
+/// Memory for the changed rows that are taken together: their numbers, and what their update needs.
 #[derive(Drop)]
 pub struct FollowBuffers {
     pub listed: Vec<usize>,
@@ -25,8 +25,8 @@ pub struct FollowBuffers {
 
 impl FollowBuffers {
     /// Memory for changes of at most so many rows, in a hint with so many columns, of digits of w
-    /// bits: for all of them together, or for 128 where there are more. Only refused memory gives
-    /// an `Err`.
+    /// bits: for all of them together, or for 128 if there are more. Only refused memory gives an
+    /// `Err`.
     pub fn new(alloc: Global, rows: usize, cols: usize, w: u32) -> Result<FollowBuffers, AllocError>
         requires cols { cols ≤ 1024 }
         requires width { (6 ≤ w) × (w ≤ 10) }
@@ -42,7 +42,7 @@ impl FollowBuffers {
 
 /// Changes both hints of DoublePIR by the rows that are marked, each once, where `hint` is the hint
 /// of the changed digits. Nothing is multiplied for the other rows. Marked rows are taken together,
-/// wherever they stand, up to 128 of them at a time.
+/// wherever they are, up to 128 of them at a time.
 pub fn follow_rows<K: Kernel, S: DigitStore>(
     kernel: K,
     hint: &Matrix,

@@ -67,7 +67,7 @@ pub enum EditError {
     /// room for.
     #[error("a record can't have this number of bytes")]
     BadLength,
-    /// There is no memory for the change.
+    /// Out of memory for the change.
     #[error("out of memory")]
     Memory,
 }
@@ -96,7 +96,7 @@ pub enum AppendError {
     /// The draft has as many records as its layout allows.
     #[error("there is no room for a further record")]
     Full,
-    /// There is no memory for the change.
+    /// Out of memory for the change.
     #[error("out of memory")]
     Memory,
 }
@@ -124,7 +124,7 @@ pub enum PublishError {
     /// The current version is 2^64 - 1, the last that there is.
     #[error("there is no further version number")]
     VersionsUsedUp,
-    /// There is no memory for the publication.
+    /// Out of memory for the publication.
     #[error("out of memory")]
     Memory,
 }
@@ -177,7 +177,7 @@ impl From<AllocError> for PublishError {
 ///
 /// The draft is kept as its changes alone, with the count of its records: those appended are
 /// changes of blanks after the records of the version. Contracts see a store as what it holds,
-/// `StoreState`, and say what a call does to every history that the store stands for.
+/// `StoreState`, and say what a call does to every history that the store represents.
 #[derive(Drop)]
 pub struct Store<K: Kernel> {
     alloc: Global,
@@ -211,7 +211,7 @@ impl<K: Kernel> Model for Store<K> {
 }
 
 impl<K: Kernel> Store<K> {
-    /// The store of a snapshot's records, with an empty draft. It keeps the allocator.
+    /// The store of a snapshot's records, with an empty draft. The store keeps the allocator.
     ///
     /// `BadLayout` exactly when there is no such form, or it is 2 or 130 for records of one byte,
     /// the layout is refused or the dimension is not in 1 to 1024; else `BadVersion` exactly when
@@ -250,7 +250,7 @@ impl<K: Kernel> Store<K> {
             (opened header.now.version (records_for header.now (bytes_held_by held)))) }
     {
         let plan = plan_of(header);
-        // The sizes are within the limits: no refusal is left.
+        // The sizes are within the limits: this can't fail.
         let layout = header.layout().unwrap();
         let count = layout.count();
         let edition = Edition::open(alloc, kernel, plan, layout, held, watcher)?;
@@ -313,8 +313,8 @@ impl<K: Kernel> Store<K> {
         }
     }
 
-    /// The bytes that all records of an ordinary store's current version have in the digits, in form
-    /// 2 those of their slots. A wide store keeps none; [`Store::copy_record`] reads both.
+    /// The bytes that all records of an ordinary store's current version have in the digits: in
+    /// form 2 those of their slots. A wide store keeps none; [`Store::copy_record`] reads both.
     pub fn bytes(&self) -> &[u8]
         requires { is_wide self.now.edition.plan.form ≡ false }
         ensures { result.now ≡
@@ -399,7 +399,7 @@ impl<K: Kernel> Store<K> {
     }
 
     /// Writes the bytes of record i to the beginning of `out`, and returns how many they are: in
-    /// forms of slots fewer than `out` has, and anything may follow them. It takes no memory.
+    /// forms of slots fewer than `out` has, and anything may follow them. Takes no memory.
     pub fn copy_record(&self, i: usize, out: &mut [u8]) -> usize
         requires index { i < length self.now.edition.records }
         requires room { length out.old ≡ self.now.edition.plan.record_len }
@@ -442,8 +442,8 @@ impl<K: Kernel> Store<K> {
     }
 
     /// The digits of the current version as they are kept, three in a word: row by row, a row in as
-    /// many words as its digits divided by 3, rounded up; digit 3 t + u of a row stands in bits 10
-    /// u to 10 u + 9 of its word t, and the other bits are 0. It takes no memory.
+    /// many words as its digits divided by 3, rounded up; digit 3 t + u of a row is in bits 10 u to
+    /// 10 u + 9 of its word t, and the other bits are 0. Takes no memory.
     pub fn digit_words(&self) -> &[u32]
         ensures { result.now ≡
             packed (digits_at self.now.edition.plan self.now.edition.records) }
@@ -452,7 +452,7 @@ impl<K: Kernel> Store<K> {
     }
 
     /// DoublePIR's server hint of the current version, kept and lent in the same way: κ n rows of
-    /// digits, one digit of a row for each row of the records' digits. It takes no memory.
+    /// digits, one digit of a row for each row of the records' digits. Takes no memory.
     pub fn server_words(&self) -> &[u32]
         ensures { result.now ≡
             packed (server_hint self.now.edition.plan self.now.edition.records) }
@@ -514,8 +514,8 @@ impl<K: Kernel> Store<K> {
         Some((now - version) as usize)
     }
 
-    /// Memory for the answer to a scheme's query on the current version. It is taken by sizes
-    /// alone, before a query is looked at. Only refused memory gives an `Err`.
+    /// Memory for the answer to a scheme's query on the current version, taken by sizes alone,
+    /// before a query is looked at. Only refused memory gives an `Err`.
     pub fn answer_buffers(&self, scheme: Scheme) -> Result<AnswerBuffers, AllocError>
         ensures scheme { IfOk result (λ room. scheme_answered room ≡ scheme) }
         ensures sizes { IfOk result (λ room.
@@ -529,7 +529,7 @@ impl<K: Kernel> Store<K> {
         self.edition.has_steps(scheme)
     }
 
-    /// The answer to the words of a query, in the scheme of the buffers. It takes no memory.
+    /// The answer to the words of a query, in the scheme of the buffers. Takes no memory.
     pub fn answer_in(&self, room: AnswerBuffers, words: &[u32]) -> Vec<u32>
         requires words { length words.now ≡
             query_count (scheme_answered room) (version_shape self.now.edition) }
@@ -609,7 +609,8 @@ impl<K: Kernel> Store<K> {
     /// Puts a record after those of the draft. Until its publication it can be edited like others.
     ///
     /// `BadLength` exactly when the bytes can't be a record; else `Full` exactly when no layout has
-    /// one record more than the draft; else accepted, or `Memory`. A refused one changes nothing.
+    /// one record more than the draft; else accepted, or `Memory`. A refused append changes
+    /// nothing.
     pub fn append(&mut self, bytes: &[u8]) -> Result<(), AppendError>
         ensures accepted { OnOk result (self.new ≡ held_appended bytes.now self.old) }
         ensures history { OnOk result ((h : History) →
@@ -681,11 +682,11 @@ impl<K: Kernel> Store<K> {
         self.count = self.edition.layout().count();
     }
 
-    /// Makes the draft the current version, and answers its number.
+    /// Makes the draft the current version, and returns its number.
     ///
     /// `NothingToPublish` exactly when no edit and no append was accepted since the last
     /// publication; else `VersionsUsedUp` exactly when the current version is 2^64 - 1; else it is
-    /// done, or `Memory`. A refused one changes nothing: all memory is asked for first.
+    /// done, or `Memory`. A refused publication changes nothing: all memory is asked for first.
     pub fn publish(&mut self) -> Result<u64, PublishError>
         ensures version { IfOk result (λ v. (v ≡ self.old.version + 1) × (v < 2 ^ 64)) }
         ensures done { OnOk result (self.new ≡ held_published self.old) }

@@ -60,14 +60,14 @@ impl RecordSource for Opening {
     ghost record_len = { λ o. o.header.record_len };
 
     fn copy_record(&self, i: usize, out: &mut [u8]) {
-        // The sizes are within the limits: no refusal is left.
+        // The sizes are within the limits: this can't fail.
         let layout = self.header.layout().unwrap();
         self.held.copy_record(&layout, i, out);
     }
 }
 
 impl Opening {
-    /// Reads a snapshot, which must be the whole input, and answers with it its digest.
+    /// Reads a snapshot, which must be the whole input, and returns it with its digest.
     ///
     /// # Errors
     ///
@@ -121,7 +121,7 @@ impl Opening {
         self.header.version
     }
 
-    /// Makes the version another one.
+    /// Changes the version.
     pub fn set_version(&mut self, version: u64)
         requires { 1 ≤ version }
         ensures { self.new ≡ record self.old {
@@ -131,7 +131,7 @@ impl Opening {
         self.header.version = version;
     }
 
-    /// Puts another record in the place of record i. It takes no memory.
+    /// Puts another record in the place of record i. Takes no memory.
     pub fn replace(&mut self, i: usize, bytes: &[u8])
         requires index { i < self.old.header.count }
         requires fits { fits (plan_held self.old.header) bytes.now ≡ true }
@@ -140,7 +140,7 @@ impl Opening {
             slice_set (records_for self.old.header self.old.bytes) i bytes.now }
     {
         let plan = self.plan();
-        // The sizes are within the limits: no refusal is left.
+        // The sizes are within the limits: this can't fail.
         let layout = self.header.layout().unwrap();
         let mut room = record_buffer();
         let slot = &mut room[..usize::from(plan.record_len)];
@@ -162,7 +162,7 @@ impl Opening {
     {
         let plan = self.plan();
         let count = self.count();
-        // There is a layout of one more: no refusal is left.
+        // There is a layout of one more: this can't fail.
         let layout = plan.layout(count + 1).unwrap();
         let mut room = record_buffer();
         let slot = &mut room[..usize::from(plan.record_len)];
@@ -182,8 +182,8 @@ impl Opening {
         self.open_watched(alloc, kernel, &mut Unwatched)
     }
 
-    /// The same store, of which each hint is watched while its rows are made: first SimplePIR's,
-    /// and then DoublePIR's.
+    /// The same store, with each hint watched while its rows are made: first SimplePIR's, and then
+    /// DoublePIR's.
     pub fn open_watched<K: Kernel, W: HintWatcher>(
         self,
         alloc: Global,
@@ -222,7 +222,7 @@ fn read_held<R: Read>(
         let (snapshot, digest) = read_after_header(alloc, reader, *header)?;
         return Ok((HeldRecords::Bytes(snapshot.records), digest));
     }
-    // The sizes are within the limits: no refusal is left.
+    // The sizes are within the limits: this can't fail.
     let layout = header.layout().unwrap();
     let mut buffer = columns_buffer(alloc, &layout)?;
     let mut records = DigitRecords::new(alloc, layout)?;
@@ -231,8 +231,8 @@ fn read_held<R: Read>(
 }
 
 // Room for the records of some columns, or for all if they have fewer: those that come one after
-// another stand below one another, each digit in another row, and to write some columns takes
-// hardly more time than to write one.
+// another are below one another, each digit in another row, and writing some columns takes hardly
+// more time than writing one.
 fn columns_buffer(alloc: Global, layout: &Layout) -> Result<Vec<u8>, AllocError>
     ensures { IfOk result (λ buffer. layout.now.record_len ≤ length buffer.items) }
 {

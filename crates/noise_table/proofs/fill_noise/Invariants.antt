@@ -4,7 +4,7 @@ use Rattle.seed_expand.specs.Words.{source_word, further}
 use Rattle.noise_table.specs.Noise.{noise}
 use Rattle.noise_table.proofs.fill_noise.Given as goal
 
--- the slice so far, and where the source stands
+-- the slice so far, and the source's place
 abbrev pub invariant-loop-noise : goal.invariant-loop-noise
 invariant-loop-noise l = record {
   source : l.source ≡ further l.fn.source l.noise-index;

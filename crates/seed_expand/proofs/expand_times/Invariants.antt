@@ -5,7 +5,7 @@ use Rattle.matrix_u32.specs.Matrix.{row}
 use Rattle.seed_expand.specs.Words.{further, source_rows}
 use Rattle.seed_expand.proofs.expand_times.Given as goal
 
--- the words so far, and where the source stands
+-- the words so far, and the source's place
 abbrev pub invariant-loop-word : goal.invariant-loop-word
 invariant-loop-word g l = record {
   wide : length l.row ≡ length l.x;

@@ -3,7 +3,7 @@ use Rattle.std.specs.Prelude.{slice_index}
 use Rattle.seed_expand.specs.Words.{source_word, further}
 use Rattle.seed_expand.proofs.fill_words.Given as goal
 
--- the slice so far, and where the source stands
+-- the slice so far, and the source's place
 abbrev pub invariant-loop-word : goal.invariant-loop-word
 invariant-loop-word l = record {
   source : l.source ≡ further l.fn.source l.word-index;

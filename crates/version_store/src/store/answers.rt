@@ -1,5 +1,5 @@
-//! Answers that are made in steps, several of them together. Contracts see nothing of them but what
-//! an answer is that is taken.
+//! Answers that are made in steps, several of them together. Contracts see nothing of them but the
+//! answer that is taken.
 
 ghost use Rattle.std.specs.Prelude.{◌≡◌, IfSome, length};
 ghost use Rattle.pir_schemes.specs.Retrievals.{query_count, answer_words};
@@ -32,7 +32,7 @@ impl<K: Kernel> Store<K> {
     }
 
     /// Makes one more step of the answers that were begun, and returns whether none is left: also
-    /// if none was begun, or they were given up for another version. It takes no memory.
+    /// if none was begun, or they were given up for another version. Takes no memory.
     pub fn step_answers(&mut self) -> bool
         ensures { self.new ≡ self.old }
     {

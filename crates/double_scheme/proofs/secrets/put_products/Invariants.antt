@@ -4,7 +4,7 @@ use Rattle.matrix_u32.specs.Matrix.{entry, row}
 use Rattle.seed_expand.specs.Words.{further, source_rows}
 use Rattle.double_scheme.proofs.secrets.put_products.Given as goal
 
--- the columns before r, and where the source stands
+-- the columns before r, and the source's place
 abbrev pub invariant-loop-r : goal.invariant-loop-r
 invariant-loop-r g l = record {
   rows : l.out.rows ≡ l.fn.out.rows;

@@ -18,7 +18,7 @@ publish_is = refl
 five_of : (bytes : List ℕ) → take 5 bytes ≡ encoding Publish → (more : List ℕ) × (bytes ≡ encoding Publish ++ more)
 five_of bytes e = (drop 5 bytes, sym (take-append-drop 5 bytes) ∙ ap (λ (x : List ℕ). x ++ drop 5 bytes) e)
 
--- and they are those that it begins with
+-- bytes that are the five and then others begin with the five
 of_five : (bytes more : List ℕ) → bytes ≡ encoding Publish ++ more → take 5 bytes ≡ encoding Publish
 of_five bytes more e = ap (take 5) e ∙ take_at (encoding Publish) more 5 (ap length publish_is)
 

@@ -8,7 +8,7 @@ use Rattle.frame_codec.proofs.Pieces.{filled_whole, filled_alone, filled_until, 
 use Rattle.frame_codec.proofs.Prefixes.{fault_stops}
 use Rattle.frame_codec.proofs.reader.fill.Goals as goal
 
--- what holds of an answer where two facts do
+-- what holds of a result of which two facts hold
 both : {T E : Type 0} (r : Result T E) (A : Type 0) (B C : T → Type 0) → OnOk r A → IfOk r B → ((x : T) → A → B x → C x) → IfOk r C
 both (Ok x) A B C a b f = f x a b
 both (Err e) A B C a b f = tt

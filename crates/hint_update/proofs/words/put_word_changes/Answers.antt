@@ -4,7 +4,7 @@ use Rattle.lane_kernels.specs.Digit.{split_count}
 use Rattle.digit_pack.proofs.DigitSums.{split_some}
 use Rattle.hint_update.proofs.words.put_word_changes.Goals as goal
 
--- the digits of a word stand within those of all words
+-- the digits of a word are within those of all words
 within : (word step cols : ℕ) → 0 < step → word < cols → word * step + step ≤ cols * step
 within word step cols some l =
     let last : word * step + (step - 1) < step * cols = mul-add-lt word step (step - 1) cols l (omega (arith, some)) in

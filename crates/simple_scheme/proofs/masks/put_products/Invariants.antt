@@ -4,7 +4,7 @@ use Rattle.simple_scheme.specs.Masks.{row_products}
 use Rattle.simple_scheme.proofs.Rows.{HasRowsOf}
 use Rattle.simple_scheme.proofs.masks.put_products.Given as goal
 
--- the rows so far, and where the source stands
+-- the rows so far, and the source's place
 abbrev pub invariant-loop-j : goal.invariant-loop-j
 invariant-loop-j g l = record {
   wide : length l.row ≡ l.secrets.cols;

@@ -46,11 +46,11 @@ made_of g c =
           ∙ sym (hint_again p c.args.layout bytes c.requires.sizes);
     }
 
--- and beside the digits these bytes are kept in an ordinary form
+-- beside the digits the bytes are kept in an ordinary form
 ordinary : (g : Over) (c : In_ok-hint g) → is_wide c.args.plan.form ≡ false → c.in_ok-digits.kept.items ≡ bytes_held_by c.args.held
 ordinary g c e = c.in_ok-digits.ensures.bytes ∙ pick_false (is_in_digits c.args.held) [] (bytes_held_by c.args.held) (c.requires.kind ∙ e)
 
--- these bytes are held
+-- the bytes that were given are held
 held_is : (g : Over) (c : In_ok-hint g) →
     bytes_held c.args.plan c.args.layout c.in_ok-digits.kept.items c.in_ok-digits.digits ≡ (bytes_held_by c.args.held)
 held_is g c =
