@@ -54,7 +54,7 @@ same_move a b since version count entries =
     ∙ ap (λ (x : ℕ). made b.since b.version x a.entries) count
     ∙ ap (λ (x : List ℕ). made b.since b.version b.count x) entries
 
--- what stands in the bytes of a block, and after it
+-- what is in the bytes of a block, and after it
 record HasFields (m : HintMove) (more bytes : List ℕ) : Type 0 where
   pub since : (rest : List ℕ) × (bytes ≡ number_bytes 8 m.since ++ rest)
   pub version : (rest : List ℕ) × (drop 8 bytes ≡ number_bytes 8 m.version ++ rest)
@@ -111,7 +111,7 @@ is_move m more e =
       len = omega (arith, len, sym (ap (λ (x : HintMove). length x.entries) e), length-take (number_in 4 (drop 20 bytes)) (drop 24 bytes));
     }
 
--- the length of the entries stands before them
+-- the length of the entries comes before them
 pub entries_len : (m : HintMove) (bytes more : List ℕ) → IsMove m → bytes ≡ body_bytes m ++ more → little_number 4 (drop 20 bytes) ≡ length m.entries
 unfolding number_in
 entries_len m bytes more is e =

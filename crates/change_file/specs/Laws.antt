@@ -26,7 +26,7 @@ pub record IsReading (link : List ℕ) (version : ℕ) (bytes : List ℕ) (ms : 
   pub last : (m : HintMove) (more : List ℕ) → IsMove m → m.since ≡ last_version version ms →
       rest ≡ block_bytes (last_link link ms) m ++ more → ⊥
 
--- What is read stands there: each block with its numbers, from the version before it, and with the
+-- What is read is there: each block with its numbers, from the version before it, and with the
 -- digest of all before as its link.
 abbrev pub ReadMovesAreThere : Type 0
 ReadMovesAreThere = (link bytes : List ℕ) (version : ℕ) →

@@ -13,7 +13,7 @@ use std::alloc::{AllocError, Global};
 /// How many bytes a link has.
 pub(crate) const LINK_LEN: usize = 32;
 
-/// How many bytes stand before the entries.
+/// How many bytes come before the entries.
 const FIELDS_LEN: usize = 24;
 
 /// The digest after a head, or after a block: that of all before it, by the link before.
@@ -96,7 +96,7 @@ pub fn block_bytes(alloc: Global, link: &Link, block: &Block<'_>) -> Result<Bloc
     Ok(BlockBytes { bytes, link: next })
 }
 
-// A block as it stands at the beginning of some bytes, whatever its link is.
+// A block as it is at the beginning of some bytes, whatever its link is.
 #[derive(Clone, Copy)]
 struct CutBlock<'a> {
     block: Block<'a>,

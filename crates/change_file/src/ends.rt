@@ -20,7 +20,7 @@ pub struct ChangesEnd {
 }
 
 /// The end of a file of changes that has no block yet, by the digest of the head of the hint's
-/// file, and the version and the number of records of that hint. It takes no memory.
+/// file, and the version and the number of records of that hint. No memory is taken.
 pub fn empty_end(hint_digest: &[u8; 32], version: u64, count: u32) -> ChangesEnd
     ensures place { (result.len ≡ 72) × (result.link.bytes ≡ first_link hint_digest.now) }
     ensures moved { (result.version ≡ version) × (result.count ≡ count) }

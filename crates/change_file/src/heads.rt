@@ -33,7 +33,7 @@ pub(crate) fn first_link(hint_digest: &[u8; 32]) -> Link
     }
 }
 
-/// The head of the changes of a hint whose file's head has this digest. It takes no memory.
+/// The head of the changes of a hint whose file's head has this digest. No memory is taken.
 pub fn head_bytes(hint_digest: &[u8; 32]) -> [u8; HEAD_LEN]
     ensures { result ≡ head_bytes hint_digest.now }
 {

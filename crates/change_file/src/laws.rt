@@ -20,8 +20,8 @@ pub fn cut_file_is_read()
     ensures { CutFileIsRead }
 {}
 
-/// What is read stands there: each block with the digest of all before as its link. No block is
-/// after the last.
+/// What is read is there: each block with the digest of all before as its link. No block is after
+/// the last.
 pub fn read_moves_are_there()
     ensures { ReadMovesAreThere }
 {}

@@ -13,7 +13,7 @@
 //! finds, and reads one block after another by [`read_head`] and [`next_block`]. Nothing here knows
 //! a folder, and no entry is looked at.
 //!
-//! Its longer tests are in tests/long/tests_frame.
+//! Its tests are in `tests_frame::change_files`.
 #![tactic(auto)]
 
 mod blocks;

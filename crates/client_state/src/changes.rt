@@ -63,7 +63,7 @@ impl KeptChanges {
         Ok(KeptChanges { bytes, end })
     }
 
-    // Those in the bytes of a file, whose end is read over; none if it is of another hint's file.
+    // Those in the bytes of a file, whose end is ignored; none if it is of another hint's file.
     fn of<R: FileSystem>(
         alloc: Global,
         kept: &KeptFile<'_, R>,
@@ -121,8 +121,8 @@ impl<'a, R: FileSystem> Folder<'a, R> {
     }
 
     /// Adds a block to the changes that were read, and to those that are kept beside a hint's file
-    /// if there is room. Whether there was: if not, the hint is to be written anew. Nothing is
-    /// written when another run writes the hint's file or its changes, or has written them since
+    /// if there is room. Returns whether there was: if not, the hint is to be written anew. Nothing
+    /// is written when another run writes the hint's file or its changes, or has written them since
     /// these were read.
     ///
     /// # Errors

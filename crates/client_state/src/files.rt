@@ -7,8 +7,8 @@ use std::fs;
 use std::fs::File;
 use std::io::ErrorKind;
 
-/// Opens a file to be read, when there is one. What is no file of its own, as a link or a pipe, is
-/// never opened.
+/// Opens a file to be read, when there is one. What is no file of its own, such as a link or a
+/// pipe, is never opened.
 pub fn open_file<R: FileSystem>(
     rt: &R,
     path: &str,
@@ -28,8 +28,8 @@ pub fn open_file<R: FileSystem>(
     }
 }
 
-/// Whether a file of its own stands there, or nothing: no link, pipe or folder, which is never
-/// opened or replaced.
+/// Whether a file of its own is there, or nothing: no link, pipe or folder, which is never opened
+/// or replaced.
 pub fn is_free<R: FileSystem>(rt: &R, name: &str) -> bool {
     match fs::symlink_metadata(rt, name) {
         Ok(found) => found.is_file(),

@@ -17,7 +17,7 @@ use std::os::unix::fs::DirBuilderExt;
 /// The mode of a folder that is made: its owner alone may use it.
 const FOLDER_MODE: u32 = 0o700;
 
-/// A client's folder. It is not locked: any number of runs may use it.
+/// A client's folder, which is not locked: any number of runs may use it.
 #[derive(Clone, Copy)]
 pub struct Folder<'a, R: FileSystem = HostRuntime> {
     rt: &'a R,
@@ -38,7 +38,7 @@ impl<'a, R: FileSystem> Folder<'a, R> {
     /// # Errors
     ///
     /// `State` when the folder can't be made, when others than its owner may use it, and when what
-    /// stands there is no folder.
+    /// is there is no folder.
     pub fn open(rt: &'a R, path: &'a str) -> Result<Folder<'a, R>, FolderFault> {
         match DirBuilder::new().mode(FOLDER_MODE).create(rt, path) {
             Err(fault) if fault.kind() != ErrorKind::AlreadyExists => Err(FolderFault::State),
@@ -46,7 +46,7 @@ impl<'a, R: FileSystem> Folder<'a, R> {
         }
     }
 
-    /// Opens a folder that stands already.
+    /// Opens an existing folder.
     ///
     /// # Errors
     ///
@@ -154,7 +154,7 @@ impl<'a, R: FileSystem> Folder<'a, R> {
         self.rt
     }
 
-    /// Its path.
+    /// The folder's path.
     pub(crate) fn path(&self) -> &'a str {
         self.path
     }
@@ -163,7 +163,7 @@ impl<'a, R: FileSystem> Folder<'a, R> {
     ///
     /// # Errors
     ///
-    /// `State` when no file of its own stands there, `Memory` when memory was refused.
+    /// `State` when no file of its own is there, `Memory` when memory was refused.
     pub(crate) fn place_at(&self, path: &str) -> Result<Place<'a, R>, FolderFault> {
         if !is_free(self.rt, path) {
             return Err(FolderFault::State);

@@ -9,7 +9,7 @@ use std::fs::OpenFile;
 use std::io;
 use std::io::Read;
 
-/// How many bytes stand before the digests of the parts.
+/// How many bytes come before the digests of the parts.
 const FRONT_LEN: usize = 86;
 
 /// How many bytes a digest has.
@@ -96,7 +96,7 @@ impl<'a, R: FileSystem> KeptFile<'a, R> {
     }
 
     /// The whole hint, with what the server had reported last. No more than the bytes of one of its
-    /// parts stand in memory beside its words.
+    /// parts are in memory beside its words.
     ///
     /// # Errors
     ///
@@ -133,7 +133,7 @@ fn read_head<R: FileSystem>(
     Ok((head, digest))
 }
 
-// The digest at the end of a head, which stands at the beginning of these bytes.
+// The digest at the end of a head, which is at the beginning of these bytes.
 fn head_digest(head: &KeptHead, bytes: &[u8]) -> Result<[u8; DIGEST_LEN], HintError> {
     let start = FRONT_LEN.saturating_add(head.digests.len());
     if start > bytes.len() || bytes.len() - start < DIGEST_LEN {

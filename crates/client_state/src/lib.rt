@@ -1,5 +1,5 @@
-//! A client's folder: the hints that it keeps from one run to the next, and nothing else. It holds
-//! no secret.
+//! A client's folder: the hints that it keeps from one run to the next, and nothing else. No secret
+//! is in it.
 //!
 //! There is one file for each scheme and store, which is replaced whole and read through one open
 //! file; `hint_file` has its bytes. Beside it may be a file of changes, which is added to and moves

@@ -14,7 +14,8 @@ const OLD_FILES: [(&str, [u8; 8]); 3] = [
     ("hint", *b"PIRHINT2"),
 ];
 
-/// What else may stand in a folder in the earlier format: what a killed process left, and the lock last.
+/// What else may be in a folder in the earlier format: what a killed process left, and the lock
+/// last.
 const LEFT_FILES: [&str; 4] = ["seed.new", "counter.new", "hint.new", "lock"];
 
 /// A folder in the earlier format that was taken over: its files are gone.
@@ -25,9 +26,9 @@ pub struct OldFolder {
 }
 
 impl<R: FileSystem> Folder<'_, R> {
-    /// Takes a folder in the earlier format over, if this is one: its hint is kept, when it is a sound one,
-    /// and its seed, its counter, its hint and its lock are removed. None when this is no such
-    /// folder, or another process uses it as one.
+    /// Takes over a folder in the earlier format, if this is one: its hint is kept, if it is a
+    /// sound one, and its seed, its counter, its hint and its lock are removed. None when this is
+    /// no such folder, or another process uses it as one.
     ///
     /// # Errors
     ///
@@ -43,7 +44,7 @@ impl<R: FileSystem> Folder<'_, R> {
         let hint_kept = keep_old_hint(self)?;
         let removed = remove_old(self)?;
         remove_left(self)?;
-        // Another run may have taken it over just before the lock was had.
+        // Another run may have taken it over just before the lock was taken.
         if removed {
             Ok(Some(OldFolder { hint_kept }))
         } else {
@@ -85,7 +86,8 @@ fn old_lock<R: FileSystem>(folder: &Folder<'_, R>) -> Result<Option<FileLock<R>>
     unless_held(lock(folder.rt(), name.as_str()))
 }
 
-// Keeps the hint of a folder in the earlier format, if there is a sound one. Whether there was.
+// Keeps the hint of a folder in the earlier format, if there is a sound one. Returns whether there
+// was.
 fn keep_old_hint<R: FileSystem>(folder: &Folder<'_, R>) -> Result<bool, FolderFault> {
     match old_hint(folder)? {
         Some(kept) => {
@@ -96,7 +98,7 @@ fn keep_old_hint<R: FileSystem>(folder: &Folder<'_, R>) -> Result<bool, FolderFa
     }
 }
 
-// The hint of a folder of before, when there is a sound one.
+// The hint of a folder in the earlier format, when there is a sound one.
 fn old_hint<R: FileSystem>(folder: &Folder<'_, R>) -> Result<Option<KeptHint>, FolderFault> {
     match open_file(folder.rt(), folder.path(), "hint") {
         Ok(Some(mut file)) => match read_old_hint(folder.rt().alloc(), &mut file) {
@@ -109,7 +111,7 @@ fn old_hint<R: FileSystem>(folder: &Folder<'_, R>) -> Result<Option<KeptHint>, F
     }
 }
 
-// Removes the files of a folder of before. Whether there was one.
+// Removes the files of a folder in the earlier format. Returns whether there was one.
 fn remove_old<R: FileSystem>(folder: &Folder<'_, R>) -> Result<bool, FolderFault> {
     let mut removed = false;
     for (name, magic) in OLD_FILES {
@@ -121,7 +123,7 @@ fn remove_old<R: FileSystem>(folder: &Folder<'_, R>) -> Result<bool, FolderFault
     Ok(removed)
 }
 
-// Removes what else a folder of before had: what killed processes left, and its lock.
+// Removes what else a folder in the earlier format had: what killed processes left, and its lock.
 fn remove_left<R: FileSystem>(folder: &Folder<'_, R>) -> Result<(), FolderFault> {
     for name in LEFT_FILES {
         remove_file(folder.rt(), folder.path(), name)?;

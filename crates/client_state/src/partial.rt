@@ -21,7 +21,7 @@ const FILE_MODE: u32 = 0o600;
 /// How many bytes a part's digest has.
 const DIGEST_LEN: usize = 32;
 
-/// How many bytes stand before the digests.
+/// How many bytes come before the digests.
 const FRONT_LEN: usize = 86;
 
 /// The file of a hint that is fetched part by part, open. While this value lives no other run adds
@@ -59,7 +59,7 @@ pub struct Fetched<'a, R: FileSystem = HostRuntime> {
 }
 
 impl<'a, R: FileSystem> Folder<'a, R> {
-    /// The partial file of the hint of the version known: the one that stands there, with its first
+    /// The partial file of the hint of the version known: the one that is there, with its first
     /// whole parts, or a new one in place of that of another version. None when another run adds to
     /// it, or when there is no such hint.
     ///
@@ -224,7 +224,7 @@ impl<'a, R: FileSystem> PartialFile<'a, R> {
         Ok(())
     }
 
-    // Whether the next part stands in the file.
+    // Whether the next part is in the file.
     fn has_next(&mut self) -> Result<bool, FolderFault> {
         let alloc = self.folder.rt().alloc();
         let Some((start, len)) = place_of(&self.head, self.next()) else {
@@ -300,7 +300,7 @@ impl<'a, R: FileSystem> PartialFile<'a, R> {
         }
     }
 
-    // Gives the file the hint's name. Whether it has it then.
+    // Gives the file the hint's name. Returns whether it has it then.
     fn rename(&self) -> Result<bool, FolderFault> {
         let mut place = self.folder.place_at(self.paths.whole.as_str())?;
         let Some(_lock) = unless_held(place.lock())? else {
@@ -330,13 +330,13 @@ impl<'a, R: FileSystem> PartialFile<'a, R> {
     }
 }
 
-// Where the digest of a part stands.
+// Where the digest of a part is.
 fn digest_place(part: usize) -> u64 {
     FRONT_LEN.saturating_add(part.saturating_mul(DIGEST_LEN)) as u64
 }
 
-// The partial file of a hint, locked: the one that stands there, or a new one. None when another
-// run has it.
+// The partial file of a hint, locked: the one that is there, or a new one. None when another run
+// has it.
 fn held_file<R: FileSystem>(
     rt: &R,
     path: &str,
@@ -349,7 +349,7 @@ fn held_file<R: FileSystem>(
     Ok(Some(HeldFile { file, _lock: taken }))
 }
 
-// The partial file that stands there, if it is of this hint, or a new one.
+// The partial file that is there, if it is of this hint, or a new one.
 fn standing_or_new<R: FileSystem>(
     rt: &R,
     path: &str,
@@ -362,7 +362,7 @@ fn standing_or_new<R: FileSystem>(
     }
 }
 
-// The partial file that stands there, when it begins so.
+// The partial file that is there, if it begins so.
 fn standing<R: FileSystem>(
     rt: &R,
     path: &str,

@@ -1,4 +1,4 @@
--- Secrets of a command line, which may stand in a file.
+-- Secrets of a command line, which may be in a file.
 use Rattle.std.specs.Prelude.{◌≡◌, ◌≢◌, ◌⊎◌, ◌∷◌, [], ◌++◌, ℕ, List, length, replicate, codes, Option, Some, None, Result, Ok, Err}
 use Rattle.std.specs.Str.{IsUtf8}
 use Rattle.hex.specs.Hex.{decode_of}
@@ -28,7 +28,7 @@ abbrev pub IsNoKeySecret : Option (List ℕ) → Type 0
 IsNoKeySecret None = Unit {0}
 IsNoKeySecret (Some text) = ((name : List ℕ) → text ≢ 64 ∷ name) × IsNoKey (Some text)
 
--- a text without a last character, where it ends with that one, and as it is where it doesn't
+-- a text without a last character, if it ends with that one, and as it is if it doesn't
 abbrev pub IsWithoutEnd : ℕ → List ℕ → List ℕ → Type 0
 IsWithoutEnd end text rest = (text ≡ rest ++ (end ∷ [])) ⊎ ((text ≡ rest) × ((front : List ℕ) → text ≢ front ++ (end ∷ [])))
 
@@ -57,14 +57,14 @@ abbrev pub IsUnread : Result (List ℕ) Failure → Type 0
 IsUnread (Err (Fault name)) = name.now ≡ codes "File"
 IsUnread _ = ⊥
 
--- the bytes on the line itself are the seed; else what comes of the file, where it is said which
--- bytes a file begins with and which can't be read
+-- the bytes on the line itself are the seed; else what comes of the file, given which bytes each
+-- file begins with and which can't be read
 abbrev pub GivesSeed : (List ℕ → List ℕ → Type 0) → (List ℕ → Type 0) → List ℕ → Secret → Result (List ℕ) Failure → Type 0
 GivesSeed begins fails takes (Bytes bytes) result = result ≡ Ok bytes
 GivesSeed begins fails takes (File name) result =
     ((text : List ℕ) × begins name.now text × IsReadAs takes text result) ⊎ (fails name.now × IsUnread result)
 
--- what a seed is as a key: itself, and `Value` where all its bytes are 0
+-- what a seed is as a key: itself, and `Value` if all its bytes are 0
 abbrev pub IsKeyOf : List ℕ → Result (List ℕ) Failure → Result (List ℕ) Failure → Type 0
 IsKeyOf takes (Ok seed) (Ok key) = (key ≡ seed) × (seed ≢ replicate 32 0)
 IsKeyOf takes (Ok seed) (Err (Value shown)) = (seed ≡ replicate 32 0) × (shown.now ≡ takes)

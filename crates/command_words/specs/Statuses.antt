@@ -41,7 +41,7 @@ Reports (line.Value takes) status = status ≡ 2
 Reports (line.Given takes given) status = status ≡ 2
 Reports line.Memory status = status ≡ 4
 
--- a bad command line by what is taken, and by the value given where there is one
+-- a bad command line by what is taken, and by the value given if there is one
 abbrev pub Shows : List ℕ → Option (List ℕ) → BadLine → Type 0
 Shows takes None (line.Value shown) = shown.now ≡ takes
 Shows takes (Some given) (line.Given shown text) = (shown.now ≡ takes) × (text.now ≡ given)

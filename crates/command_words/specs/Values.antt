@@ -13,7 +13,7 @@ bytes_in text =
     else if length text == 0 then None
     else result_ok (decode_of text)
 
--- a text stands for no bytes that a record may be given as
+-- a text encodes no bytes that a record may be given as
 abbrev pub IsNoRecord : List ℕ → Type 0
 IsNoRecord text = (bytes : List ℕ) → bytes_in text ≡ Some bytes → length bytes ≤ 65535 → ⊥
 

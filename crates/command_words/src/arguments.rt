@@ -13,7 +13,7 @@ const BAD_LINE: u8 = 2;
 ///
 /// # Errors
 ///
-/// What went wrong is printed, and the exit status answered: 2 where a word is no text, and 4 for
+/// What went wrong is printed, and the exit status returned: 2 if a word is no text, and 4 for
 /// refused memory.
 pub fn program_words(rt: &HostRuntime) -> Result<Vec<String>, u8>
     ensures status { IfErr result (λ status. (status ≡ 2) ⊎ (status ≡ 4)) }

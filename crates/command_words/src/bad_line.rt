@@ -20,7 +20,7 @@ pub enum BadLine<'a> {
     Value(&'static str),
     /// The same with the value given.
     Given(&'static str, &'a str),
-    /// There was no memory to read it.
+    /// Memory to read it was refused.
     Memory,
 }
 

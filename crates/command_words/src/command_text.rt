@@ -59,7 +59,7 @@ pub enum Argument {
         name: &'static str,
         help: &'static str,
     },
-    /// A word that stands by its place.
+    /// A word that is known by its place.
     Word {
         name: &'static str,
         help: &'static str,
@@ -89,7 +89,7 @@ pub fn with_command<'a>(
     text: &CommandText,
 ) -> Result<Command<'a>, AllocError> {
     let Ok(below) = text.command(alloc) else {
-        // By a call: the prover would else take apart here all that a command owns.
+        // A call keeps the prover from taking apart here all that a command owns.
         drop(program);
         return Err(AllocError);
     };

@@ -8,10 +8,10 @@ use crate::failure::Failure;
 /// The descriptors of standard input, output and error.
 const STANDARD: [i32; 3] = [0, 1, 2];
 
-/// What is read from there is nothing.
+/// Reads of it give nothing.
 const NULL_DEVICE: &[u8] = b"/dev/null";
 
-/// Opens the null device, to be read alone, at each standard descriptor that is closed. So no file
+/// Opens the null device, for reading only, at each standard descriptor that is closed. So no file
 /// and no connection that is opened later gets one of their numbers, and what is printed can't go
 /// there: printing to an output that was closed fails.
 ///

@@ -14,7 +14,7 @@ pub struct Failed {
     /// The line that says that it failed.
     pub failure: Failure,
     /// What and where: a file's name and the system's error, an address, a line of the input. None
-    /// if there is no more to say, or no memory to say it.
+    /// if there is no more to say, or if memory for it was refused.
     pub cause: Option<String>,
 }
 

@@ -24,7 +24,7 @@ pub enum Failure {
     /// A secret's file has no value that its option takes: what that takes.
     #[error("error: {0}\n\nFor more information, try '--help'.")]
     Value(&'static str),
-    /// There was no memory.
+    /// Memory was refused.
     #[error("fault: Memory")]
     Memory,
 }

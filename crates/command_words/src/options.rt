@@ -37,7 +37,7 @@ pub fn verbose_flag<'a>(alloc: Global) -> Arg<'a>
         .action(ArgAction::SetTrue)
 }
 
-/// A required word that stands by its place.
+/// A required word that is known by its place.
 pub fn word<'a>(alloc: Global, name: &'a str, help: &'a str) -> Arg<'a>
     ensures by_place { (result.id ≡ name.entry) × (result.long ≡ None) × (result.short ≡ None) }
     ensures shown { result.help ≡ Some help.entry }
@@ -55,7 +55,7 @@ pub fn word<'a>(alloc: Global, name: &'a str, help: &'a str) -> Arg<'a>
 ///
 /// # Errors
 ///
-/// `Value`, with what it takes, where none was given.
+/// `Value`, with what it takes, if none was given.
 pub fn text_at<'a>(
     found: &ArgMatches<'a>,
     name: &str,
@@ -76,8 +76,8 @@ pub fn text_at<'a>(
 ///
 /// # Errors
 ///
-/// `Value`, with what it takes, where none was given; `Given`, with the text too, where it is no
-/// number or a larger one.
+/// `Value`, with what it takes, if none was given; `Given`, with the text too, if it is no number
+/// or a larger one.
 pub fn number_at<'a>(
     found: &ArgMatches<'a>,
     name: &str,

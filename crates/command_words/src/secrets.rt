@@ -1,4 +1,4 @@
-//! Secrets of a command line, which may stand in a file.
+//! Secrets of a command line, which may be in a file.
 
 ghost use Rattle.std.specs.Prelude.{◌≡◌, ◌≢◌, ◌<◌, ◌≤◌, ◌∷◌, ℕ, List, None, Some, Ok, length, take};
 ghost use Rattle.std.specs.Prelude.{replicate, IfOk, IfErr, IfSome, MatchOption};
@@ -21,7 +21,7 @@ use std::str;
 /// The most bytes that are read of a secret's file: 64 digits, the end of a line, and one more.
 const MOST_SECRET: usize = 67;
 
-/// Where the files of secrets stand.
+/// Where the files of secrets are.
 pub trait SecretFiles {
     /// What the file of a name begins with: as many bytes as there is room for, or all of them if
     /// these are fewer.
@@ -51,9 +51,9 @@ impl SecretFiles for HostRuntime {
     }
 }
 
-/// A secret as a command line gives it, so that it needn't stand where other users see it. Its file
-/// is read by [`seed`](Secret::seed) or [`key`](Secret::key), once the whole line was judged: a
-/// line that is bad elsewhere opens none.
+/// A secret as a command line gives it, so that it needn't be where other users see it. Its file is
+/// read by [`seed`](Secret::seed) or [`key`](Secret::key), once the whole line was judged: a line
+/// that is bad elsewhere opens none.
 #[derive(Clone, Copy)]
 pub enum Secret<'a> {
     /// The bytes that the digits on the line encode.
@@ -67,9 +67,9 @@ impl<'a> Secret<'a> {
     ///
     /// # Errors
     ///
-    /// `Fault` with `File` where the file can't be read, or its first 67 bytes are no text;
-    /// `Value`, with what the option takes, where its text without the end of its line isn't 64 hex
-    /// digits. None where the line has the bytes.
+    /// `Fault` with `File` if the file can't be read, or its first 67 bytes are no text; `Value`,
+    /// with what the option takes, if its text without the end of its line isn't 64 hex digits.
+    /// None if the line has the bytes.
     pub fn seed<F: SecretFiles>(self, files: &F, takes: &'static str) -> Result<[u8; 32], Failure>
         ensures given { GivesSeed (F.begins files.now 67) (F.fails files.now) takes.now
             self.entry result }
@@ -91,7 +91,7 @@ impl<'a> Secret<'a> {
     ///
     /// # Errors
     ///
-    /// As those of [`seed`](Secret::seed), and `Value` where all bytes are zero.
+    /// As those of [`seed`](Secret::seed), and `Value` if all bytes are zero.
     pub fn key<F: SecretFiles>(self, files: &F, takes: &'static str) -> Result<[u8; 32], Failure>
         ensures given { GivesKey (F.begins files.now 67) (F.fails files.now) takes.now
             self.entry result }
@@ -127,8 +127,7 @@ impl Secret<'_> {
 ///
 /// # Errors
 ///
-/// `Value`, with what it takes, where none was given, and where it is neither `@FILE` nor 64 hex
-/// digits.
+/// `Value`, with what it takes, if none was given, and if it is neither `@FILE` nor 64 hex digits.
 pub fn seed_at<'a>(
     found: &ArgMatches<'a>,
     name: &str,
@@ -154,7 +153,7 @@ pub fn seed_at<'a>(
 ///
 /// # Errors
 ///
-/// As those of [`seed_at`], and where the digits encode bytes that are all zero.
+/// As those of [`seed_at`], and if the digits encode bytes that are all zero.
 pub fn key_at<'a>(
     found: &ArgMatches<'a>,
     name: &str,
@@ -192,7 +191,7 @@ pub(crate) fn line_of<'a>(text: &'a str) -> &'a str
     without_end(without_end(text, '\n'), '\r')
 }
 
-// A text without this last character, where it has that.
+// A text without this last character, if it has that.
 fn without_end<'a>(text: &'a str, end: char) -> &'a str
     requires ascii { end < 128 }
     ensures { IsWithoutEnd end text.now result.now }

@@ -10,13 +10,13 @@ ghost use Rattle.command_words.specs.Values.{IsNoRecord, bytes_in};
 use hex::{FromHex, FromHexError};
 use std::alloc::{AllocError, Global};
 
-/// The most bytes that a word of hex digits may stand for.
+/// The most bytes that a word of hex digits may encode.
 const MAX_RECORD_BYTES: usize = 65_535;
 
 /// The word for no bytes, which hex digits can't write as a word.
 const NO_BYTES: &str = "-";
 
-/// A number of decimal digits alone: no sign, but leading zeros are as good as none.
+/// A number of decimal digits alone: no sign; leading zeros are ignored.
 pub fn decimal(text: &str) -> Option<u64>
     ensures { SomeIff result (IsNumeral 10 text.now × (digits_value 10 text.now < 2 ^ 64))
         (digits_value 10 text.now) }
@@ -50,7 +50,7 @@ pub fn publisher_key(text: &str) -> Option<[u8; 32]>
     Some(key)
 }
 
-/// Bytes as two hex digits each, or `-` where there are none. Only refused memory gives an `Err`.
+/// Bytes as two hex digits each, or `-` if there are none. Only refused memory gives an `Err`.
 pub fn bytes_from_hex(alloc: Global, text: &str) -> Result<Option<Vec<u8>>, AllocError>
     ensures { IfOk result (λ found. MatchOption found (bytes_in text.now ≡ None)
         (λ bytes. bytes_in text.now ≡ Some bytes.items)) }

@@ -17,7 +17,7 @@ stays_noted core before noted after is held id state =
     (subst (λ l. after.held ≡ held_by (session_of core.sessions noted.id) l) (sym state)
     (held ∙ subst (λ (k : Connection). k.held ≡ held_by (session_of core.sessions k.id) k.state) (sym is) refl))
 
--- what a turn came to stays where the connection is over
+-- what a turn came to stays if the connection is over
 pub stays_over : (o r j : TurnResult) → ((GoesOn o → ⊥) → r ≡ o) → ((GoesOn r → ⊥) → j ≡ r) → (GoesOn o → ⊥) → j ≡ o
 stays_over o r j retired judged over = judged (subst (λ k. GoesOn k → ⊥) (sym (retired over)) over) ∙ retired over
 

@@ -16,8 +16,8 @@ use mio::net::TcpStream;
 use std::io::{ErrorKind, Read};
 use std::net::{Shutdown, SocketAddr};
 
-/// How many milliseconds a connection that is over is read from, so that the last reply is not lost
-/// with it.
+/// How many milliseconds a connection that is over is still read from, so that the last reply is
+/// not lost with it.
 const LINGER: u64 = 2_000;
 
 /// A socket, and what is kept for it. A flag is put out when a call would have waited, and set by

@@ -23,7 +23,7 @@ pub trait Saver {
     ///
     /// # Errors
     ///
-    /// If it could not be appended: nothing of it is left, or, if that can't be had either, a
+    /// If it could not be appended: nothing of it is left, or, if that can't be achieved either, a
     /// part may be.
     fn append(&mut self, rt: &HostRuntime, store: &Store<Lanes>) -> Result<(), AppendFailed>
         requires saved { saved self.old ≡ store.now.version }

@@ -1,9 +1,9 @@
 //! Connections over sockets, and a table of them.
 //!
-//! What a connection does to the server is a [`connection_turns::turn`], which is proved. This
-//! crate has its socket, the clock of its turns, what is counted of them, and the table in which
-//! the bytes that are held for all connections are bounded. Which one has its turn is the matter of
-//! `mio_server`.
+//! What a connection does to the server is a [`connection_turns::turn`], which is proved.
+//! `connection_table` has its socket, the clock of its turns, what is counted of them, and the
+//! table in which the bytes that are held for all connections are bounded. Which one has its turn
+//! is the matter of `mio_server`.
 //!
 //! Its tests are in tests/service, over the sockets of `pir_server run`.
 #![tactic(auto)]

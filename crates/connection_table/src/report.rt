@@ -20,13 +20,13 @@ pub enum RunFault {
     /// Standard input was to be watched, and can't be.
     #[error("standard input can't be watched")]
     Input,
-    /// There was no memory.
+    /// Memory was refused.
     #[error("out of memory")]
     Memory,
 }
 
 impl RunFault {
-    /// That of a call of the system which gave no memory, or else no connection.
+    /// That of a call of the system which was refused memory, or else made no connection.
     pub fn of_system(error: &io::Error) -> RunFault {
         if error.kind() == io::ErrorKind::OutOfMemory {
             RunFault::Memory
@@ -45,7 +45,7 @@ pub enum Closing {
     Turn(Fault),
     /// There was no progress for too long.
     Idle,
-    /// Too many bytes were held for all connections, and for this one the most.
+    /// Too many bytes were held for all connections, and the most for this one.
     Crowded,
     /// Its peer had as many as it may have.
     TooMany,

@@ -32,7 +32,7 @@ impl ConnectionTable {
     ///
     /// # Errors
     ///
-    /// `AllocError` if there is no memory for them.
+    /// `AllocError` if memory for them was refused.
     pub fn new(alloc: Global, most: usize, memory: usize) -> Result<ConnectionTable, AllocError>
         ensures free { IfOk result (λ places. places.connections.items ≡ replicate most None) }
         ensures memory { IfOk result (λ places. places.memory ≡ memory) }

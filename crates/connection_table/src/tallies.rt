@@ -7,7 +7,7 @@ ghost use Rattle.connection_table.specs.Timing.{time_of};
 
 use service_watch::{Counted, Counters, Histogram, ReplyHead};
 
-/// The kind of a reply that answers a query.
+/// The kind of a reply to a query.
 const ANSWER: u8 = 0x85;
 
 /// A turn that is over; its moments are in microseconds since the start.
@@ -19,7 +19,7 @@ pub struct TurnTimes {
     pub began: u64,
     /// When it ended.
     pub ended: u64,
-    /// How many microseconds the turns before it took that put its frame off.
+    /// How many microseconds the turns before it that put its frame off took.
     pub spent: u64,
 }
 

@@ -31,7 +31,7 @@ pub struct Watch {
     /// When its last turn ended, in microseconds since the start, if that left more to do. If the
     /// frame of that turn was put off, this is when that frame began to wait.
     pub left_more: Option<u64>,
-    /// How many microseconds the turns took that have put its frame off.
+    /// How many microseconds the turns that put its frame off took.
     pub spent: u64,
 }
 
@@ -68,8 +68,8 @@ impl Watch {
         }
     }
 
-    /// Notes since when the frame waits that is at hand after a turn, and how long turns took that
-    /// have put it off.
+    /// Notes since when the frame at hand after a turn has waited, and how long the turns that put
+    /// it off took.
     pub fn note_end(&mut self, turn: TurnTimes, outcome: TurnResult)
         ensures put_off { outcome ≡ TurnResult.PutOff →
             (self.new.left_more ≡ Some turn.waits_since) × (self.new.spent ≡ time_of turn) }

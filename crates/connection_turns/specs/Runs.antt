@@ -43,7 +43,7 @@ DoesToCore before (Stops id piece) after =
 DoesToCore before (Closes id) after = (session_of after.sessions id ≡ None) × (after.store ≡ before.store) × OthersStay id before after
 DoesToCore before Undrafts after = (after.sessions ≡ before.sessions) × (after.store ≡ without_draft before.store)
 
--- a server and the history that its store stands for
+-- a server and the history that its store represents
 pub record Moment : Type 0 where
   pub core : Core
   pub history : History

@@ -69,7 +69,7 @@ impl ByteQueue {
         }
     }
 
-    // Gives the room of what was used up back, if there is memory to move the rest.
+    // Gives back the room of what was used up, if there is memory to move the rest.
     fn give_back(&mut self)
         ensures { self.new ≡ self.old }
     {

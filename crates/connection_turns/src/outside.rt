@@ -49,7 +49,7 @@ pub trait Outside<K: Kernel> {
     ///
     /// # Errors
     ///
-    /// If it could not be appended: nothing of it is left, or, if that can't be had either, a
+    /// If it could not be appended: nothing of it is left, or, if that can't be achieved either, a
     /// part may be.
     fn append(&mut self, store: &Store<K>) -> Result<(), AppendFailed>
         requires saved { saved self.old ≡ store.now.version }
@@ -78,8 +78,8 @@ pub trait Outside<K: Kernel> {
         ensures kept { saved self.new ≡ saved self.old };
 
     /// Writes some bytes from their start on, and returns how many were taken: one at least, if
-    /// there are any. It may be called only while the store's current version is saved, since the
-    /// bytes may say that it was published.
+    /// there are any. Bytes may be written only while the store's current version is saved, since
+    /// the bytes may say that it was published.
     fn write(&mut self, store: &Store<K>, bytes: &[u8]) -> Result<usize, Stop>
         requires saved { saved self.old ≡ store.now.version }
         ensures within { IfOk result (λ n. n ≤ length bytes.now) }

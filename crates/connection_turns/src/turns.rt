@@ -33,7 +33,7 @@ pub enum Fault {
     /// connection is to be closed.
     #[error("a write failed")]
     Write,
-    /// There was no memory for what came or for a frame: the connection is to be closed.
+    /// Memory for what came or for a frame was refused: the connection is to be closed.
     #[error("out of memory")]
     Memory,
     /// A publication may be there in part, or without having been made: nothing may be written any

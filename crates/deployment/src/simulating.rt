@@ -55,7 +55,7 @@ pub fn simulate(rt: &HostRuntime) -> u8 {
     }
 }
 
-// Runs one seed after the other, until something is broken. Whether nothing was.
+// Runs one seed after the other, until something is broken. Returns whether nothing was.
 fn run_all(rt: &HostRuntime, plan: &Plan) -> io::Result<bool> {
     for number in 0..plan.runs {
         let run = Run {

@@ -308,8 +308,8 @@ impl Rooms {
     }
 }
 
-// What stands beside those who act. Each part is made by itself: what is dropped when one can't be
-// made is proved for each.
+// What there is beside those who act. Each part is made by itself: what is dropped when one can't
+// be made is proved for each.
 fn beside(
     alloc: Global,
     sizes: &Sizes,

@@ -89,7 +89,7 @@ impl<'a> Client<'a> {
         Some((running.server, running.run.seen()?))
     }
 
-    /// Begins a run over a connection. Whether the folder can be used.
+    /// Begins a run over a connection. Returns whether the folder can be used.
     ///
     /// # Errors
     ///

@@ -217,7 +217,7 @@ impl<'a> Publisher<'a> {
         Ok(publish_draft(self.files, self.dir)?.number())
     }
 
-    // Whether a publication failed for want of changes where the draft has some.
+    // Whether a publication failed because it had no changes though the draft has some.
     fn cannot_be(&self, failure: Failure) -> bool {
         name_of(failure) == "NothingToPublish" && !self.may_have_no_draft()
     }
@@ -314,7 +314,7 @@ impl<'a> Publisher<'a> {
     }
 
     /// Looks at the folder after a command that was done, or after a crash: what is seen then is
-    /// there from now on. Whether it could be looked at.
+    /// there from now on. Returns whether it could be looked at.
     ///
     /// # Errors
     ///

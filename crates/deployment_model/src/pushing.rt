@@ -229,7 +229,7 @@ impl<'v> Talk<'v> {
         }
     }
 
-    // The push came to nothing. Its server may have no memory for it, and is asked again later.
+    // The push came to nothing. Its server may be refused memory for it, and is asked again later.
     fn failed(&self, fault: PushFault) -> Result<Pushed, Broken> {
         match fault {
             PushFault::Refused(_) => Ok(self.ended(PushEnd::Left("Refused"))),

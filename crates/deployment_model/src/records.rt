@@ -110,8 +110,8 @@ impl Truth {
         self.versions.get(place_of(version)?)
     }
 
-    /// Notes the digest of a version's snapshot. Whether it is the one that was noted before, if
-    /// there was any.
+    /// Notes the digest of a version's snapshot. Returns whether it is the one that was noted
+    /// before, if there was any.
     pub fn note_digest(&mut self, version: u64, digest: [u8; 32]) -> bool {
         let Some(place) = place_of(version) else {
             return false;

@@ -23,8 +23,8 @@ fed_piece x h was piece taken store is before after f = record {
   each = f.each;
 }
 
--- what the first frame of a piece did to the sessions, where its bytes were taken, is what these
--- bytes do
+-- what the first frame of a piece did to the sessions, if its bytes were taken, is what these bytes
+-- do
 pub as_piece : (old : ServerSession) (id : ℕ) (piece : List ℕ) (taken : ℕ) (new : ServerSession) → length old.replies.items ≡ 0
     → ((h : History) → StandsFor old.core.store h → (was : Session) → session_of old.core.sessions id ≡ Some was →
     (is : Session) × (session_of new.core.sessions id ≡ Some is)

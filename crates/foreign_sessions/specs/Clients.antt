@@ -77,9 +77,9 @@ pub record ResumesFrom (old : ClientSession) (bytes : List ℕ) (answer : Result
   pub resumed : IsResumed old.core.state (saved_in old.core.state known hint) answer new.core.state
   pub waits : Waits old new
 
--- what bytes did to a session, as its answer says: the client went on with the hint of the file
--- that they are, or left it; or they are no such file; or there was no memory; or the client
--- refused it. What waits stayed
+-- what bytes did to a session, as its result says: the client went on with the hint of the file
+-- that they are, or left it; or they are no such file; or memory was refused; or the client refused
+-- it. What waits stayed
 abbrev pub Resumes : ClientSession → List ℕ → Result Bool ResumeFault → ClientSession → Type 0
 Resumes old bytes (Ok held) new = ResumesFrom old bytes (Ok held) new
 Resumes old bytes (Err (resume.File Damaged)) new =

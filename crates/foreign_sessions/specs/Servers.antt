@@ -34,8 +34,8 @@ pub record Opens (bytes : List ℕ) (s : ServerSession) : Type 0 where
   pub none : (id : ℕ) → session_of s.core.sessions id ≡ None
   pub silent : s.replies.items ≡ []
 
--- what the opening of a session did: there is a new one; or there was one of this number, or no
--- memory, and nothing changed
+-- what the opening of a session did: there is a new one; or there was one of this number, or memory
+-- was refused, and nothing changed
 pub record OpensSession (old : ServerSession) (id : ℕ) (answer : Result (Unit {0}) SessionError) (new : ServerSession) : Type 0 where
   pub opened : OnOk answer (session_of new.core.sessions id ≡ Some new_session)
   pub in_use : IsErrOf answer opening.IdInUse ↔ IsSome (session_of old.core.sessions id)
@@ -62,7 +62,7 @@ Feeds old id piece (Err fault.Untaken) new = (0 < length old.replies.items) × (
 Feeds old id piece (Err (fault.Server e)) new = ServesPiece old id piece (Err e) new
 
 -- What the first frame of a piece did, of which so many bytes were taken: what these do as a piece
--- of their own. They are all bytes of the piece, or those up to the end of the first frame that
+-- of their own. All bytes of the piece are taken, or those up to the end of the first frame that
 -- they make whole, and one at least if there is one. Its reply waits now, and no other session
 -- changed.
 pub record ServesFirst (old : ServerSession) (id : ℕ) (piece : List ℕ) (answer : Result ℕ FeedError) (new : ServerSession) : Type 0 where
@@ -86,7 +86,7 @@ FeedsFirst old id piece (Err fault.Untaken) new = (0 < length old.replies.items)
 FeedsFirst old id piece (Err (fault.Server e)) new = ServesFirst old id piece (Err e) new
 
 -- what an edit of the draft did: the record is replaced in it; or there is no such record, or the
--- bytes can't be one, or no memory, and the store is as it was
+-- bytes can't be one, or memory was refused, and the store is as it was
 pub record Edits (old : ServerSession) (i : ℕ) (bytes : List ℕ) (answer : Result (Unit {0}) EditError) (new : ServerSession) : Type 0 where
   pub accepted : OnOk answer (new.core.store ≡ held_edited i bytes old.core.store)
   pub history : OnOk answer ((h : History) → StandsFor old.core.store h → StandsFor new.core.store (after_edit i bytes h))
@@ -96,8 +96,8 @@ pub record Edits (old : ServerSession) (i : ℕ) (bytes : List ℕ) (answer : Re
   pub sessions : new.core.sessions ≡ old.core.sessions
   pub replies : new.replies ≡ old.replies
 
--- what an append to the draft did: the record stands after the others; or the bytes can't be one,
--- or there is no layout of one record more, or no memory, and the store is as it was
+-- what an append to the draft did: the record comes after the others; or the bytes can't be one, or
+-- there is no layout of one record more, or memory was refused, and the store is as it was
 pub record Appends (old : ServerSession) (bytes : List ℕ) (answer : Result (Unit {0}) AppendError) (new : ServerSession) : Type 0 where
   pub accepted : OnOk answer (new.core.store ≡ held_appended bytes old.core.store)
   pub history : OnOk answer ((h : History) → StandsFor old.core.store h → StandsFor new.core.store (after_append bytes h))
@@ -108,8 +108,8 @@ pub record Appends (old : ServerSession) (bytes : List ℕ) (answer : Result (Un
   pub sessions : new.core.sessions ≡ old.core.sessions
   pub replies : new.replies ≡ old.replies
 
--- what a publication did: the draft is the current version, and its number is answered; or there
--- was nothing to publish, or no further number, or no memory, and the store is as it was
+-- what a publication did: the draft is the current version, and its number is returned; or there
+-- was nothing to publish, or no further number, or memory was refused, and the store is as it was
 pub record Publishes (old : ServerSession) (answer : Result ℕ PublishError) (new : ServerSession) : Type 0 where
   pub version : IfOk answer (λ v. (v ≡ old.core.store.version + 1) × (v < 2 ^ 64))
   pub done : OnOk answer (new.core.store ≡ held_published old.core.store)

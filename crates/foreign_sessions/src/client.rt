@@ -49,7 +49,7 @@ pub enum FeedFault {
 /// Why a client doesn't go on with a hint's file.
 #[derive(Clone, Copy, Debug, PartialEq, Eq, Error)]
 pub enum ResumeFault {
-    /// The bytes are no file of a hint, or there is no memory for it.
+    /// The bytes are no file of a hint, or memory for it was refused.
     #[error(transparent)]
     File(HintError),
     /// The client refuses it.
@@ -66,7 +66,7 @@ pub struct ClientSession {
 }
 
 impl ClientSession {
-    /// A client as [`ClientCore::new`] makes it, with nothing waiting. It takes no memory.
+    /// A client as [`ClientCore::new`] makes it, with nothing waiting. No memory is taken.
     pub fn new(alloc: Global, seed: [u8; 32], first_number: u64) -> ClientSession
         requires { first_number ≤ 2 ^ 62 }
         ensures core { result.core ≡ record { state = fresh seed first_number; reader = Some [] } }
@@ -96,7 +96,7 @@ impl ClientSession {
     }
 
     /// [`ClientCore::hello`], whose bytes wait from then on. `Untaken` exactly if bytes wait
-    /// already, and then nothing changes; else as the client answers. What waits stays if the
+    /// already, and then nothing changes; else what the client returns. What waits stays if the
     /// client refuses.
     pub fn hello(&mut self, key: [u8; 32]) -> Result<(), SessionFault>
         ensures { Answers self.old (ClientCall.Hello key) result self.new }
@@ -201,8 +201,8 @@ impl ClientSession {
     }
 
     /// [`ClientCore::feed`], of which the bytes and the events wait from then on. `Untaken` exactly
-    /// if bytes or events wait already, and then nothing changes; else as the client answers,
-    /// and what it gives waits also if it stops.
+    /// if bytes or events wait already, and then nothing changes; else what the client returns, and
+    /// what it gives waits also if it stops.
     pub fn feed(&mut self, piece: &[u8]) -> Result<(), FeedFault>
         ensures { Feeds self.old piece.now result self.new }
     {
@@ -349,7 +349,7 @@ impl ClientSession {
     }
 }
 
-// The bytes that say which store this is the plan of. They take no memory.
+// The bytes that say which store this is the plan of. No memory is taken.
 #[tactic(auto, unfolding(hint_file::specs::Files::plan_bytes, frame_codec::specs::Numbers::number_bytes))]
 fn store_bytes(plan: &Plan) -> [u8; STORE_LEN]
     ensures { result ≡ plan_bytes plan.now }

@@ -48,8 +48,8 @@ pub struct ServerSession {
 impl ServerSession {
     /// A server of the records of a snapshot file, of which these are all bytes, with no session.
     ///
-    /// The faults are those of [`read_snapshot`], in its order; `Memory` also if there is none
-    /// for the server.
+    /// The faults are those of [`read_snapshot`], in its order; `Memory` also if memory for the
+    /// server is refused.
     pub fn open(alloc: Global, bytes: &[u8]) -> Result<ServerSession, SnapshotFault>
         ensures opened { IfOk result (Opens bytes.now) }
         ensures refused { IfErr result (λ fault. MayRefuse fault bytes.now) }
@@ -93,7 +93,7 @@ impl ServerSession {
     }
 
     /// [`ServerCore::feed`], whose replies wait from then on. `Untaken` exactly if replies wait
-    /// already, and then nothing changes; else as the server answers.
+    /// already, and then nothing changes; else what the server returns.
     pub fn feed(&mut self, id: u64, piece: &[u8]) -> Result<(), PieceFault>
         ensures { Feeds self.old id piece.now result self.new }
     {
@@ -107,10 +107,10 @@ impl ServerSession {
     }
 
     /// [`ServerCore::feed_frame`], whose reply waits from then on: serves one frame at most, and
-    /// returns how many bytes of the piece it took. These are all, or those up to the end of the
-    /// first frame that they make whole; the rest is for a later call. So no more than one reply
-    /// waits at a time, whatever a piece asks for. `Untaken` exactly when replies wait already, and
-    /// then nothing changes; else as the server answers.
+    /// returns how many bytes of the piece it took: all, or those up to the end of the first frame
+    /// that they make whole; the rest is for a later call. So no more than one reply waits at a
+    /// time, whatever a piece asks for. `Untaken` exactly when replies wait already, and then
+    /// nothing changes; else what the server returns.
     pub fn feed_frame(&mut self, id: u64, piece: &[u8]) -> Result<usize, PieceFault>
         ensures { FeedsFirst self.old id piece.now result self.new }
     {

@@ -44,6 +44,6 @@ sealed_parts body a x len e =
 pub sealed_one : (a b : List ℕ) → sealed a ≡ sealed b → a ≡ b
 sealed_one a b e = (cut_back 32 a b (sha256 a) (sha256 b) (length-sha256 a) (length-sha256 b) e).0
 
--- what stands after the same bytes is the same
+-- what comes after the same bytes is the same
 pub rest_one : (front a b : List ℕ) → front ++ a ≡ front ++ b → a ≡ b
 rest_one front a b e = (cut_prefix front front a b refl e).1

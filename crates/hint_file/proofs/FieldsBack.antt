@@ -31,7 +31,7 @@ pub length-fields : (f : HintFields) → length f.known.plan.seed ≡ 32 → len
 unfolding field_bytes plan_bytes
 length-fields f len = simp (length-append, length-number, len) refl
 
--- the byte of the scheme stands at its place
+-- the byte of the scheme is at its place
 pub scheme_at : (f : HintFields) → length f.known.plan.seed ≡ 32 → slice_index (field_bytes f) 53 ≡ scheme_byte f.scheme
 unfolding field_bytes plan_bytes before
 scheme_at f len =

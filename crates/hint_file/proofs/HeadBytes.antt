@@ -1,4 +1,4 @@
--- What stands in the head of a hint's file.
+-- What is in the head of a hint's file.
 use Rattle.std.proofs.Common.{◌≡◌, ℕ, ◌+◌, ◌*◌, ◌^◌, ◌<◌, ◌≤◌, List, ◌++◌, length, take, drop, Err, refl, sym, ap, ◌∙◌, append_assoc, arith}
 use Rattle.std.specs.Prelude.{IsErrOf}
 use Rattle.std.proofs.lemmas.List.{length-append, take_at, take-append-le, take-append-drop}
@@ -29,7 +29,7 @@ use Rattle.hint_file.proofs.PartDigests.{length-part_digests}
 abbrev pub inside : List ℕ → HintFields → List ℕ → List ℕ
 inside front f digests = front ++ (field_bytes f ++ digests)
 
--- a head and what stands after it, piece by piece
+-- a head and what comes after it, piece by piece
 pub head_pieces : (front digests rest : List ℕ) (f : HintFields) →
     head_after front f digests ++ rest ≡ front ++ (field_bytes f ++ (digests ++ (sha256 (inside front f digests) ++ rest)))
 head_pieces front digests rest f = simp append_assoc refl
@@ -44,13 +44,13 @@ pub length-head : (front digests : List ℕ) (f : HintFields) → length f.known
 length-head front digests f seed =
     omega (arith, length-append (inside front f digests) (sha256 (inside front f digests)), length-front front digests f seed, length-sha256 (inside front f digests))
 
--- one front and fields are one encoding of fields
+-- one prefix and fields are one encoding of fields
 pub same_fields : (front r s : List ℕ) (f g : HintFields) → length f.known.plan.seed ≡ 32 → length g.known.plan.seed ≡ 32 →
     front ++ (field_bytes f ++ r) ≡ front ++ (field_bytes g ++ s) → (field_bytes f ≡ field_bytes g) × (r ≡ s)
 same_fields front r s f g seed seed2 e =
     cut_prefix (field_bytes f) (field_bytes g) r s (length-fields f seed ∙ sym (length-fields g seed2)) (rest_one front _ _ e)
 
--- what comes after the front
+-- what comes after the prefix
 pub after_front : (front bytes rest x : List ℕ) → bytes ≡ front ++ rest → bytes ≡ front ++ x → rest ≡ x
 after_front front bytes rest x b e = rest_one front rest x (sym b ∙ e)
 
@@ -72,7 +72,7 @@ same_head front d e r s f g k l hd he eq =
     cut_prefix (sha256 (inside front f d)) (sha256 (inside front g e)) r s (length-sha256 (inside front f d) ∙ sym (length-sha256 (inside front g e))) digests.1 in
     (pieces.0, (digests.0, rest.1))
 
--- what is sealed begins with what stands there
+-- what is sealed begins with what is there
 pub body_is : (n : ℕ) (front r body tail : List ℕ) → length front ≡ n → n ≤ length body → body ++ tail ≡ front ++ r → body ≡ front ++ drop n body
 body_is n front r body tail len le e =
     sym (take-append-drop n body)

@@ -29,7 +29,7 @@ digests_on bytes some =
     let one : part_count (length bytes) ≡ suc (part_count (length (drop 262144 bytes))) = omega (arith, some, length-drop 262144 bytes) in
     ap (λ (n : ℕ). first_digests n bytes) one
 
--- the same, cut where the first part ends
+-- the same, cut at the end of the first part
 pub digests_more : (bytes : List ℕ) (m : ℕ) → 0 < length bytes → m ≡ min (length bytes) 262144 →
     sha256 (take m bytes) ++ part_digests (drop m bytes) ≡ part_digests bytes
 digests_more bytes m some e = by (cases_lt (length bytes) 262144)

@@ -61,7 +61,7 @@ take_digests (suc k) (suc m) bytes le =
     ∙ take-append-add first others (32 * k)
     ∙ ap (λ (x : List ℕ). first ++ x) (take_digests k m (drop 262144 bytes) (omega (arith, le)))
 
--- the digests of so many parts want no byte past them
+-- the digests of so many parts need no byte past them
 cut_digests : (k n : ℕ) (bytes : List ℕ) → 262144 * k ≤ n → first_digests k (take n bytes) ≡ first_digests k bytes
 unfolding first_digests
 cut_digests zero n bytes le = refl
@@ -81,7 +81,7 @@ length-bytes_at bytes s =
     let rest = length-drop (262144 * s.first) bytes in
     omega (arith, length-take (span_len (length bytes) s) (drop (262144 * s.first) bytes), rest)
 
--- a span's parts have the digests that stand at its place
+-- a span's parts have the digests that are at its place
 digests_at : (bytes : List ℕ) (s : PartSpan) → s.first ≤ s.end → s.end ≤ part_count (length bytes) →
     part_digests (bytes_at bytes s) ≡ take (32 * (s.end - s.first)) (drop (32 * s.first) (part_digests bytes))
 digests_at bytes s order inside =
@@ -126,7 +126,7 @@ same_words (x ∷ xs) (y ∷ ys) p q e =
     let one : x ≡ y = one_word x y (word_bytes xs) (word_bytes ys) (first_small x xs p) (first_small y ys q) cut in
     ap (λ (w : ℕ). w ∷ xs) one ∙ ap (λ (ws : List ℕ). y ∷ ws) (same_words xs ys (others_small x xs p) (others_small y ys q) rest)
 
--- each of some words is small where each of all is
+-- each of some words is small if each of all is
 some_small : (n a : ℕ) (ws : List ℕ) → All (λ w. w < 2 ^ 32) ws → All (λ w. w < 2 ^ 32) (take n (drop a ws))
 some_small n a ws h = grind (arith, elements, h)
 
@@ -142,7 +142,7 @@ words_at words ws bytes s n p q read e len =
     ∙ take_words n (drop (65536 * s.first) words) in
     same_words ws (take n (drop (65536 * s.first) words)) q (some_small n (65536 * s.first) words p) (read ∙ e ∙ there)
 
--- a word that was read stands at its place among the zeros
+-- a word that was read is at its place among the zeros
 word_at : (words ws : List ℕ) (total start n k : ℕ) → ws ≡ take n (drop start words) → length ws ≡ n → start ≤ k → k < start + n → start ≤ total →
     slice_index (among_zeros total start ws) k ≡ slice_index words k
 word_at words ws total start n k is len le lt inside =

@@ -36,7 +36,7 @@ left_of_all None b bs P Q p q h = tt
 left_of_all (Some x) None bs P Q p q h = absurd p
 left_of_all (Some x) (Some y) bs P Q p q h = subst P (sym p) (h y q)
 
--- so it is where it holds whatever is left
+-- so it is if it holds whatever is left
 pub whatever_is_left : (a b : Option (List ℕ)) (bs : List ℕ) (P : List ℕ → Type 0) → Consumes a b bs → ((ys : List ℕ) → P (bs ++ ys)) → IfSome a P
 whatever_is_left None b bs P p h = tt
 whatever_is_left (Some x) None bs P p h = absurd p
@@ -72,12 +72,12 @@ words_short a b words n count before short le =
 
 -- ---- the head
 
--- bytes that go on from no front to a head
+-- bytes that go on from no prefix to a head
 abbrev pub HasNoHead : List ℕ → List ℕ → Type 0
 HasNoHead front bytes =
     (f : HintFields) (digests rest : List ℕ) → AreKeepable f → HasDigests f digests → front ++ bytes ≢ head_after front f digests ++ rest
 
--- what the bytes after a front are, when a head begins with it
+-- what the bytes after a prefix are, when a head begins with it
 behind : (front bytes digests rest : List ℕ) (f : HintFields) → front ++ bytes ≡ head_after front f digests ++ rest →
     bytes ≡ field_bytes f ++ (digests ++ (sha256 (inside front f digests) ++ rest))
 behind front bytes digests rest f e = rest_one front bytes _ (e ∙ head_pieces front digests rest f)
@@ -192,7 +192,7 @@ head_consumed (Err e) front x others bytes g len a b is count all many taken rea
 
 -- ---- the whole file
 
--- bytes that go on from no front to a file
+-- bytes that go on from no prefix to a file
 abbrev pub IsNoFile : List ℕ → List ℕ → Type 0
 IsNoFile front bytes = (known : ServerInfo) (hint : Hint) → IsKeepable known hint → front ++ bytes ≢ file_after front known hint
 
@@ -200,7 +200,7 @@ pub no_file : (front bytes : List ℕ) → HasNoHead front bytes → IsNoFile fr
 no_file front bytes never = λ known hint k e.
     never (fields_of known hint) (part_digests (word_bytes hint.matrix.words)) (word_bytes hint.matrix.words) k.fields (has_digests known hint k) e
 
--- what stands after a head
+-- what comes after a head
 pub gone_on : (front r h ys : List ℕ) → front ++ r ≡ h → front ++ (r ++ ys) ≡ h ++ ys
 gone_on front r h ys e = sym (append_assoc front r ys) ∙ ap (λ (x : List ℕ). x ++ ys) e
 
@@ -225,7 +225,7 @@ other_digests front r digests ys f is k hd other = λ known hint kept e.
 
 -- ---- a magic and a name in front
 
--- bytes that are no file with this magic and a name of so many bytes in front
+-- bytes that are no file with a prefix of this magic and a name of so many bytes
 abbrev pub IsNoNamed : List ℕ → ℕ → List ℕ → Type 0
 IsNoNamed magic n bytes =
     (name : List ℕ) (known : ServerInfo) (hint : Hint) → length name ≡ n → IsKeepable known hint → bytes ≢ file_after (magic ++ name) known hint

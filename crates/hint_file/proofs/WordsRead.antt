@@ -18,7 +18,7 @@ one_small ws bytes fits len read k lt =
 pub words_small : (ws bytes : List ℕ) → IsBytes bytes → length bytes ≡ 4 * length ws → IsRead little_number 4 bytes ws → All (λ w. w < 2 ^ 32) ws
 words_small ws bytes fits len read = grind (arith, elements, one_small ws bytes fits len read)
 
--- what stands before, the words, and what stands after, of so many zeros
+-- what comes before, the words, and what comes after, of so many zeros
 pub among : (total start n : ℕ) (items before rest words after ws : List ℕ) → items ≡ replicate total 0 → items ≡ before ++ rest → rest ≡ words ++ after →
     length before ≡ start → length words ≡ n → length ws ≡ n → before ++ (ws ++ after) ≡ among_zeros total start ws
 among total start n items before rest words after ws zeros cut cut2 lb lw lws =

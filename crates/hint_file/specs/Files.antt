@@ -13,7 +13,7 @@ use Rattle.hint_file.specs.declared.heads.HintFields.{HintFields}
 unfoldable pub hint_magic : List ℕ
 hint_magic = codes "PIRHINT3"
 
--- what the file of a hint of before begins with; the name of a seed stands after it
+-- what the file of a hint in the earlier format begins with; the name of a seed comes after it
 unfoldable pub old_hint_magic : List ℕ
 old_hint_magic = codes "PIRHINT2"
 
@@ -58,8 +58,8 @@ first_digests (suc n) bytes = sha256 (take 262144 bytes) ++ first_digests n (dro
 abbrev pub part_digests : List ℕ → List ℕ
 part_digests bytes = first_digests (part_count (length bytes)) bytes
 
--- a head with these bytes in front, all that stands before the words: the fields after them, the
--- digests of the parts of the words, and the digest of all that
+-- a head with these bytes as its prefix, all that comes before the words: the fields after them,
+-- the digests of the parts of the words, and the digest of all that
 abbrev pub head_after : List ℕ → HintFields → List ℕ → List ℕ
 head_after front f digests = sealed (front ++ (field_bytes f ++ digests))
 
@@ -72,7 +72,8 @@ abbrev pub fields_of : ServerInfo → Hint → HintFields
 fields_of known hint =
     record { known = known; scheme = hint.scheme; version = hint.version; rows = hint.matrix.rows; cols = hint.matrix.cols }
 
--- a file with these bytes in front: the head, and the words of a hint row by row, four bytes each
+-- a file with these bytes as its prefix: the head, and the words of a hint row by row, four bytes
+-- each
 abbrev pub file_after : List ℕ → ServerInfo → Hint → List ℕ
 file_after front known hint =
     head_after front (fields_of known hint) (part_digests (word_bytes hint.matrix.words)) ++ word_bytes hint.matrix.words
@@ -81,11 +82,11 @@ file_after front known hint =
 abbrev pub hint_bytes : ServerInfo → Hint → List ℕ
 hint_bytes known hint = file_after hint_magic known hint
 
--- the file of a hint of before: it has the name of a client's seed, 32 bytes
+-- the file of a hint in the earlier format: it has the name of a client's seed, 32 bytes
 abbrev pub old_hint_bytes : List ℕ → ServerInfo → Hint → List ℕ
 old_hint_bytes name known hint = file_after (old_hint_magic ++ name) known hint
 
--- fields of a hint that a file can have: a public seed of 32 bytes, and a matrix that there is
+-- fields of a hint that a file can have: a public seed of 32 bytes, and a matrix that can exist
 pub record AreKeepable (f : HintFields) : Type 0 where
   pub seed : length f.known.plan.seed ≡ 32
   pub rows : f.rows < 2 ^ 64
@@ -97,7 +98,7 @@ pub record IsKeepable (known : ServerInfo) (hint : Hint) : Type 0 where
   pub fields : AreKeepable (fields_of known hint)
   pub whole : IsWhole hint.matrix
 
--- as many bytes as the digests of all parts have, where the hint has these fields
+-- as many bytes as the digests of all parts have, if the hint has these fields
 abbrev pub HasDigests : HintFields → List ℕ → Type 0
 HasDigests f digests = length digests ≡ 32 * part_count (4 * (f.rows * f.cols))
 

@@ -27,7 +27,7 @@ abbrev pub RecordRowsAreRead : Type 0
 RecordRowsAreRead = (known now : ServerInfo) (h : Hint) (head : KeptHead) (i : ℕ) (bytes : List ℕ) → IsHeadOf known h head → HasRowsFor head.fields now i →
     bytes ≡ bytes_at (word_bytes h.matrix.words) (span_for head.fields now i) → ReadsTheRows now h head i bytes
 
--- Whether a kept hint has the rows of a record that there is depends on the hint and on what is
--- known, and is the same for each record.
+-- Whether a kept hint has the rows of an existing record depends on the hint and on what is known,
+-- and is the same for each record.
 abbrev pub EachRecordAlike : Type 0
 EachRecordAlike = (f : HintFields) (now : ServerInfo) (i : ℕ) → i < now.count → HasRowsFor f now i ↔ Serves f now

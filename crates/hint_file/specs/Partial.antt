@@ -15,7 +15,7 @@ use Rattle.hint_file.specs.Files.{field_bytes, part_count}
 unfoldable pub partial_magic : List ℕ
 partial_magic = codes "PIRPART1"
 
--- what stands before the digests in a partial file: its kind, and which hint it is to have. The
+-- what comes before the digests in a partial file: its kind, and which hint it is to have. The
 -- parts of a file that begins so are those of one version of one store in one scheme.
 abbrev pub partial_front : HintFields → List ℕ
 partial_front f = partial_magic ++ field_bytes f

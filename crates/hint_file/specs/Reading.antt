@@ -40,7 +40,7 @@ pub record HasParts (head : KeptHead) (s : PartSpan) : Type 0 where
   pub start : 65536 * s.first ≤ words_of head.fields
   pub inside : s.end ≤ part_count (4 * words_of head.fields)
 
--- bytes of the parts of a span, by the head: as many as the parts have, with the digests that stand
+-- bytes of the parts of a span, by the head: as many as the parts have, with the digests that are
 -- there
 pub record AreParts (head : KeptHead) (s : PartSpan) (bytes : List ℕ) : Type 0 where
   pub parts : HasParts head s

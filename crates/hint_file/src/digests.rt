@@ -16,7 +16,7 @@ pub const PART_LEN: usize = 4 * PART_WORDS;
 ///
 /// # Errors
 ///
-/// `AllocError` where memory was refused.
+/// `AllocError` if memory was refused.
 pub fn digests_of(alloc: Global, bytes: &[u8]) -> Result<Vec<u8>, AllocError>
     ensures { IfOk result (λ digests. digests.items ≡ part_digests bytes.now) }
 {
@@ -31,11 +31,11 @@ pub fn digests_of(alloc: Global, bytes: &[u8]) -> Result<Vec<u8>, AllocError>
 }
 
 /// The digests of all parts of the bytes of some words, one after another. No more than the bytes
-/// of one part stand in memory.
+/// of one part are in memory at once.
 ///
 /// # Errors
 ///
-/// `AllocError` where memory was refused.
+/// `AllocError` if memory was refused.
 pub fn digests_of_words(alloc: Global, words: &[u32]) -> Result<Vec<u8>, AllocError>
     ensures { IfOk result (λ digests. digests.items ≡ part_digests (word_bytes words.now)) }
 {

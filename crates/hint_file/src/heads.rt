@@ -1,4 +1,4 @@
-//! The head of a hint's file: all that stands before the hint's words.
+//! The head of a hint's file: all that comes before the hint's words.
 
 ghost use Rattle.std.specs.Prelude.{◌≡◌, ◌≢◌, ◌≤◌, ◌<◌, ◌+◌, ◌*◌, ◌^◌, ◌++◌, ◌↔◌, ℕ, List, length};
 ghost use Rattle.std.specs.Prelude.{slice_index, IfOk, IfSome, IfNone, IsTrue, MatchOption};
@@ -23,10 +23,10 @@ pub const FIELDS_LEN: usize = 78;
 /// How many bytes a plan has among the fields.
 const PLAN_LEN: usize = 41;
 
-/// How many bytes stand before the digests: the magic and the fields.
+/// How many bytes come before the digests: the magic and the fields.
 pub const FRONT_LEN: usize = MAGIC_LEN + FIELDS_LEN;
 
-/// The most bytes of a head: a matrix that there is has 512 parts at most.
+/// The most bytes of a head: a matrix that can exist has 512 parts at most.
 pub const MOST_HEAD: usize = FRONT_LEN + DIGEST_LEN * 512 + DIGEST_LEN;
 
 /// Which hint a file has, and what the server had reported last.
@@ -48,7 +48,7 @@ pub struct KeptHead {
 }
 
 impl KeptHead {
-    /// How many bytes stand before the words.
+    /// How many bytes come before the words.
     pub fn len(&self) -> usize
         requires fields { AreKeepable self.now.fields }
         requires digests { HasDigests self.now.fields self.now.digests.items }
@@ -185,7 +185,7 @@ pub fn fields_in(bytes: &[u8]) -> Option<HintFields>
     })
 }
 
-// The fields after the bytes in front; none when these bytes begin with no front and fields.
+// The fields after the bytes of the prefix; none when these bytes begin with no prefix and fields.
 fn fields_after(front: &[u8], bytes: &[u8]) -> Option<HintFields>
     ensures read { IfSome result (λ f. (rest : List ℕ) ×
         (bytes.now ≡ front.now ++ (field_bytes f ++ rest))) }
@@ -221,7 +221,7 @@ pub fn digests_len(fields: &HintFields) -> Option<usize>
     }
 }
 
-/// The head, with the bytes in front, that these bytes are, or begin with.
+/// The head, with the bytes of the prefix, that these bytes are, or begin with.
 ///
 /// # Errors
 ///

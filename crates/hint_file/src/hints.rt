@@ -24,7 +24,7 @@ pub struct KeptHint {
     pub hint: Hint,
 }
 
-/// The file of a hint: its head, and the hint's words, whose bytes are made part by part where they
+/// The file of a hint: its head, and the hint's words, whose bytes are made part by part as they
 /// are written.
 #[derive(Drop)]
 pub struct HintFile<'a> {
@@ -89,7 +89,7 @@ impl HintFile<'_> {
     }
 }
 
-// Writes four bytes for each word. No more than the bytes of one part stand in memory.
+// Writes four bytes for each word. No more than the bytes of one part are in memory at once.
 fn write_words<W: Write>(alloc: Global, words: &[u32], writer: &mut W) -> Result<(), WriteFault>
     ensures { OnOk result
         (Appends (W.contents writer.old) (W.contents writer.new) (word_bytes words.now)) }

@@ -1,5 +1,5 @@
 //! The file of a hint, as bytes: which hint it is, what the server had reported, and the hint's
-//! words. It holds no secret.
+//! words. No secret is in it.
 //!
 //! `specs/Files.antt` defines the bytes. What is read is what was written: the file has a digest of
 //! its head and one of each part of its words, and other bytes are refused. So the parts with the

@@ -27,7 +27,7 @@ fn partial_magic() -> [u8; MAGIC_LEN]
 
 /// The head of the hint of the version known, in a scheme, before any part has come: there are
 /// zeros in place of the digests. None exactly when what is known has no layout, or no hint that
-/// there is.
+/// can exist.
 ///
 /// # Errors
 ///
@@ -61,7 +61,7 @@ pub fn head_to_fetch(
     Ok(Some(KeptHead { fields, digests }))
 }
 
-/// What stands before the digests in the file of a hint of which only the first parts are there.
+/// What comes before the digests in the file of a hint of which only the first parts are there.
 ///
 /// # Errors
 ///
@@ -75,7 +75,7 @@ pub fn partial_front(alloc: Global, head: &KeptHead) -> Result<Vec<u8>, AllocErr
     Ok(bytes)
 }
 
-/// All that stands before the words in a hint's file, once the digests of all parts are there.
+/// All that comes before the words in a hint's file, once the digests of all parts are there.
 ///
 /// # Errors
 ///
@@ -94,8 +94,8 @@ pub fn part_digest(bytes: &[u8]) -> [u8; DIGEST_LEN]
     digest_of(bytes)
 }
 
-/// Whether these are the bytes of the parts of a span, by their number and by the digests that
-/// stand in a head.
+/// Whether these are the bytes of the parts of a span, by their number and by the digests that are
+/// in a head.
 ///
 /// # Errors
 ///

@@ -76,7 +76,7 @@ pub fn parts_for(head: &KeptHead, now: &ServerInfo, index: u32) -> Option<PartSp
     })
 }
 
-/// Where the parts of a span stand in the file of this head, and how many bytes they have; none
+/// Where the parts of a span are in the file of this head, and how many bytes they have; none
 /// exactly when the hint has no such parts.
 pub fn place_of(head: &KeptHead, span: PartSpan) -> Option<(u64, usize)>
     ensures { MatchOption result (¬ HasParts head.now span) (λ place. HasParts head.now span
@@ -102,7 +102,7 @@ pub fn place_of(head: &KeptHead, span: PartSpan) -> Option<(u64, usize)>
 ///
 /// # Errors
 ///
-/// `Damaged` exactly where these are not the bytes of its parts, `Memory` where memory was refused.
+/// `Damaged` exactly when these are not the bytes of its parts, `Memory` if memory was refused.
 pub fn parts_in(
     alloc: Global,
     head: &KeptHead,

@@ -22,7 +22,7 @@ use pir_schemes::PART_WORDS;
 use std::alloc::{AllocError, Global};
 use std::io::Read;
 
-// As many bytes as there is room for; `Damaged` exactly where the reader has fewer.
+// As many bytes as there is room for; `Damaged` exactly when the reader has fewer.
 fn fill<R: Read>(reader: &mut R, out: &mut [u8]) -> Result<(), HintError>
     ensures read { OnOk result
         (Consumes (R.remaining reader.old) (R.remaining reader.new) out.new) }
@@ -40,7 +40,7 @@ fn fill<R: Read>(reader: &mut R, out: &mut [u8]) -> Result<(), HintError>
     Ok(())
 }
 
-// So many bytes; `Damaged` exactly where the reader has fewer.
+// So many bytes; `Damaged` exactly when the reader has fewer.
 fn read_bytes<R: Read>(alloc: Global, reader: &mut R, len: usize) -> Result<Vec<u8>, HintError>
     ensures count { IfOk result (λ bytes. length bytes.items ≡ len) }
     ensures read { IfOk result (λ bytes. Consumes (R.remaining reader.old) (R.remaining reader.new)
@@ -63,8 +63,8 @@ fn old_magic() -> [u8; MAGIC_LEN]
     *b"PIRHINT2"
 }
 
-// The head that goes on, after the bytes in front, with what the reader has; `Damaged` exactly when
-// no head does.
+// The head that goes on, after the bytes of the prefix, with what the reader has; `Damaged` exactly
+// when no head does.
 fn read_head<R: Read>(alloc: Global, front: &[u8], reader: &mut R) -> Result<KeptHead, HintError>
     ensures read { IfOk result (λ head. (rest : List ℕ)
         × (front.now ++ rest ≡ head_after front.now head.fields head.digests.items)
@@ -95,7 +95,7 @@ fn read_head<R: Read>(alloc: Global, front: &[u8], reader: &mut R) -> Result<Kep
     head_after(alloc, front, &bytes)
 }
 
-// Room for the bytes of a part, or of so many words where they are fewer. Which they are is not
+// Room for the bytes of a part, or of so many words if they are fewer. What bytes it holds is not
 // said.
 fn part_buffer(alloc: Global, count: usize) -> Result<Vec<u8>, AllocError>
     ensures { IfOk result (λ buffer. vec_len buffer ≡ 4 * min count 65536) }
@@ -104,7 +104,7 @@ fn part_buffer(alloc: Global, count: usize) -> Result<Vec<u8>, AllocError>
 }
 
 // As many words as the buffer has room for, added to those that were read before; `Damaged` exactly
-// where the reader has fewer bytes.
+// when the reader has fewer bytes.
 fn read_part<R: Read>(
     reader: &mut R,
     buffer: &mut [u8],
@@ -125,8 +125,8 @@ fn read_part<R: Read>(
     Ok(())
 }
 
-// So many words. No more than the bytes of one part stand in memory beside them; `Damaged` exactly
-// where the reader has fewer.
+// So many words. No more than the bytes of one part are in memory beside them; `Damaged` exactly
+// when the reader has fewer.
 fn read_words<R: Read>(alloc: Global, reader: &mut R, count: usize) -> Result<Vec<u32>, HintError>
     requires { count ≤ most_words }
     ensures count { IfOk result (λ words. length words.items ≡ count) }
@@ -148,7 +148,7 @@ fn read_words<R: Read>(alloc: Global, reader: &mut R, count: usize) -> Result<Ve
     Ok(words)
 }
 
-// Nothing more; `Damaged` exactly where there is.
+// Nothing more; `Damaged` exactly when there is more.
 fn read_end<R: Read>(reader: &mut R) -> Result<(), HintError>
     ensures read { OnOk result (IsAtEnd (R.remaining reader.old)) }
     ensures damaged { IsErrOf result HintError.Damaged → IfSome (R.remaining reader.old)
@@ -162,8 +162,8 @@ fn read_end<R: Read>(reader: &mut R) -> Result<(), HintError>
     }
 }
 
-// The hint whose file goes on, after the bytes in front, with what the reader has up to its end;
-// `Damaged` exactly when no file does.
+// The hint whose file goes on, after the bytes of the prefix, with what the reader has up to its
+// end; `Damaged` exactly when no file does.
 fn read_after<R: Read>(alloc: Global, front: &[u8], reader: &mut R) -> Result<KeptHint, HintError>
     ensures read { IfOk result (λ kept. IfSome (R.remaining reader.old)
         (λ bytes. front.now ++ bytes ≡ file_after front.now kept.known kept.hint)) }
@@ -201,8 +201,8 @@ fn read_after<R: Read>(alloc: Global, front: &[u8], reader: &mut R) -> Result<Ke
     })
 }
 
-// The hint whose file the reader gives up to its end, with a magic and a name of so many bytes in
-// front; `Damaged` exactly when it gives no such file.
+// The hint whose file the reader gives up to its end, with a prefix of a magic and a name of so
+// many bytes; `Damaged` exactly when it gives no such file.
 fn read_named<R: Read>(
     alloc: Global,
     magic: &[u8; MAGIC_LEN],
@@ -228,12 +228,12 @@ fn read_named<R: Read>(
 }
 
 /// The hint whose file the reader gives up to its end, with what the server had reported last.
-/// Beside the hint's words, no more than the bytes of one part stand in memory.
+/// Beside the hint's words, no more than the bytes of one part are in memory.
 ///
 /// # Errors
 ///
-/// `Damaged` exactly when the bytes are no file of a hint, `Read` when a read failed, an
-/// interrupted one, too, `Memory` when memory was refused.
+/// `Damaged` exactly when the bytes are no file of a hint, `Read` when a read failed, even an
+/// interrupted one, `Memory` when memory was refused.
 pub fn read_hint<R: Read>(alloc: Global, reader: &mut R) -> Result<KeptHint, HintError>
     ensures read { IfOk result (λ kept. IfSome (R.remaining reader.old)
         (λ bytes. bytes ≡ hint_bytes kept.known kept.hint)) }

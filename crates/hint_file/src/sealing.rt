@@ -42,7 +42,7 @@ pub fn seal(mut bytes: Vec<u8>) -> Result<Vec<u8>, AllocError>
     Ok(bytes)
 }
 
-/// The bytes before their digest; none where the last 32 are not it.
+/// The bytes before their digest; none if the last 32 are not it.
 pub fn unsealed(bytes: &[u8]) -> Option<&[u8]>
     ensures { MatchOption result ((body : List ℕ) → bytes.now ≢ sealed body)
         (λ body. bytes.now ≡ sealed body.now) }
@@ -58,7 +58,7 @@ pub fn unsealed(bytes: &[u8]) -> Option<&[u8]>
     }
 }
 
-/// The bytes after those in front; none where others stand there.
+/// The bytes after those of the prefix; none if others are there.
 pub fn after<'a>(bytes: &'a [u8], front: &[u8]) -> Option<&'a [u8]>
     ensures cases { MatchOption result ((rest : List ℕ) → bytes.now ≢ front.now ++ rest)
         (λ rest. bytes.now ≡ front.now ++ rest.now) }

@@ -37,7 +37,7 @@ MovedRowsAreOfTheWhole = (p : Plan) (i : ℕ) (ms : List HintMove) (before rows 
     IsMovedWhole p ms before whole → record_rows p i rows.matrix ≡ record_rows p i whole.matrix
 
 -- a move from one hint to another, each of which is made from scratch of records, by entries that
--- lead from those to these; blanks stand for records that were appended
+-- lead from those to these; blanks represent records that were appended
 pub record IsTrueMove (p : Plan) (m : HintMove) (hint next : WordMatrix) : Type 0 where
   pub before : List (List ℕ)
   pub after : List (List ℕ)

@@ -30,7 +30,8 @@ pub(crate) fn layout_for(plan: &Plan, block: &Block<'_>) -> Option<Layout>
     Some(layout)
 }
 
-// Moves the rows of a record by a block. Whether the block is one by which they can be moved.
+// Moves the rows of a record by a block. Returns whether the block is one by which they can be
+// moved.
 fn move_by_block<K: Kernel>(
     kernel: K,
     plan: &Plan,

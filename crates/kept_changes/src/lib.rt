@@ -9,7 +9,7 @@
 //! (`laws::rows_are_of_the_whole`). The whole hint is moved when the file has grown so long that it
 //! is folded into the hint's.
 //!
-//! Its longer tests are in tests/long/tests_session.
+//! Its tests are in tests/long/kept_changes and `tests_session::client`.
 #![tactic(auto)]
 
 mod files;

@@ -82,7 +82,7 @@ fn move_by_change<K: Kernel>(
 
 /// Moves the rows of a SimplePIR hint in one place of the columns by entries, under the first
 /// public matrix of a seed. What its other rows hold afterwards is not said: entries of other
-/// places are passed over. It takes no memory.
+/// places are passed over. No memory is taken.
 pub(crate) fn move_place<K: Kernel>(
     kernel: K,
     layout: &Layout,

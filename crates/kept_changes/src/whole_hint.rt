@@ -13,7 +13,7 @@ use hint_changes::{PublicRow, move_by_entries};
 use matrix_u32::Kernel;
 use std::alloc::{AllocError, Global};
 
-// Moves a hint by a block. Whether the block is one by which it can be moved.
+// Moves a hint by a block. Returns whether the block is one by which it can be moved.
 fn move_whole<K: Kernel>(
     kernel: K,
     plan: &Plan,

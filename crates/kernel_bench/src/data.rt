@@ -6,8 +6,7 @@ ghost use Rattle.std.specs.Prelude.{◌≡◌, length, IfSome};
 use matrix_u32::Matrix;
 use std::alloc::Global;
 
-/// A matrix of words, of which the bits outside the mask are 0. None where there is no memory for
-/// it.
+/// A matrix of words, of which the bits outside the mask are 0. None if memory for it is refused.
 pub fn filled(alloc: Global, rows: usize, cols: usize, seed: u32, mask: u32) -> Option<Matrix>
     ensures { IfSome result (λ m. (m.rows ≡ rows) × (m.cols ≡ cols)) }
 {
@@ -35,7 +34,7 @@ pub fn vector(alloc: Global, count: usize, seed: u32) -> Option<Vec<u32>>
     Some(words)
 }
 
-// Fills `out` from a state of the generator on, and answers the state after it.
+// Fills `out` from a state of the generator on, and returns the state after it.
 fn fill(out: &mut [u32], seed: u32, mask: u32) -> u32 {
     let mut state = seed;
     for word in out.iter_mut() {

@@ -51,7 +51,7 @@ impl Figure {
         u128::from(self.products) * 1000 / u128::from(self.nanos.max(1))
     }
 
-    /// Prints it in a line, where a time is given with that in place of its own.
+    /// Prints it in a line, if a time is given with that in place of its own.
     pub fn print(mut self, rt: &HostRuntime, nanos: Option<u64>) -> Option<()> {
         self.nanos = nanos.unwrap_or(self.nanos);
         println!(rt; "{self}").ok()

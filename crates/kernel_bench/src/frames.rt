@@ -13,7 +13,7 @@ const PAYLOAD_LIMIT: usize = 16_777_216;
 const MOST_WORDS: usize = (PAYLOAD_LIMIT - 9) / 4;
 
 /// Writes an answer of as many words as a hint has, or as there is room for, and reads it again,
-/// and prints how long each took. None where memory or the clock is refused.
+/// and prints how long each took. None if memory or the clock is refused.
 pub fn time_frames(rt: &HostRuntime, sizes: BenchSizes) -> Option<()> {
     let hint = usize::from(sizes.side).saturating_mul(usize::from(sizes.secret));
     let count = hint.min(MOST_WORDS);

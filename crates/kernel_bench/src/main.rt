@@ -6,7 +6,7 @@
 //! size, and one of 1,024 records of one byte in a store of 4,096. Each has a line of its own: the
 //! time of its quickest turn, what it read in a second, how many products it added in a second, and
 //! a sum of the words that it made. With `rate` one product is made 1,000 times, and its line has
-//! the mean. Fields are parted by tabs.
+//! the mean. Fields are separated by tabs.
 //!
 //! Its test is its own output, which the gate compares; that of the kernels is in `tests_scheme`.
 #![tactic(auto)]

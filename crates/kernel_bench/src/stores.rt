@@ -16,7 +16,7 @@ const DIGITS: u64 = 64;
 const EDITED: usize = 17;
 
 /// Opens a store of `side` columns, publishes one record in each turn, of which each digit changes,
-/// and prints how long it took for each row of digits. None where memory or the clock is refused.
+/// and prints how long it took for each row of digits. None if memory or the clock is refused.
 pub fn time_publication(rt: &HostRuntime, sizes: BenchSizes) -> Option<()> {
     let mut store = opened(rt.alloc(), header_of(sizes))?;
     let took = publications(rt, sizes.turns, &mut store)?;
@@ -39,8 +39,8 @@ fn publications(rt: &HostRuntime, turns: u32, store: &mut Store<Lanes>) -> Optio
 }
 
 /// Opens a store with a row of digits for each of `side` records of one byte, publishes a quarter
-/// of them in each turn, which stand one after another, and prints how long it took. None where
-/// memory or the clock is refused.
+/// of them in each turn, one after another, and prints how long it took. None if memory or the
+/// clock is refused.
 pub fn time_neighbours(rt: &HostRuntime, sizes: BenchSizes) -> Option<()> {
     let header = Header {
         form: 1,

@@ -1,4 +1,4 @@
-//! Each kernel, timed. A time is that of the quickest turn, in nanoseconds; None where there is no
+//! Each kernel, timed. A time is that of the quickest turn, in nanoseconds; None if there is no
 //! clock.
 
 ghost use Rattle.std.specs.Prelude.{◌≡◌, ◌≤◌, ◌*◌, length, OnSome};

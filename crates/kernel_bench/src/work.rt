@@ -27,8 +27,7 @@ pub struct BenchSizes {
 // The bits of a digit.
 const DIGIT: u32 = 1023;
 
-/// Does every piece of work, and prints how long each took. None where memory or the clock is
-/// refused.
+/// Does every piece of work, and prints how long each took. None if memory or the clock is refused.
 pub fn time_kernels(rt: &HostRuntime, sizes: BenchSizes) -> Option<()> {
     let side = usize::from(sizes.side);
     let digits = filled(rt.alloc(), side, side, 1, DIGIT)?;

@@ -28,7 +28,7 @@ pub fn earlier_count(publications: Publications<'_>) -> usize
 ///
 /// # Errors
 ///
-/// As [`replay_records`] of the first that it refuses. The snapshot is of no more use then.
+/// As [`replay_records`] of the first that it refuses. The snapshot is of no further use then.
 pub fn replay_first<H: RecordHolder>(
     held: &mut H,
     publications: Publications<'_>,

@@ -17,7 +17,7 @@ pub enum DraftFault {
     /// No edit and no append was accepted since the last publication.
     #[error("nothing was edited or appended since the last publication")]
     NothingToPublish,
-    /// The current version is 2^64 - 1, the last that there is.
+    /// The current version is 2^64 - 1, the last one.
     #[error("there is no further version number")]
     VersionsUsedUp,
     /// The publication would have 2^32 bytes or more.

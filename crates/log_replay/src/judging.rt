@@ -11,7 +11,7 @@ use pir_schemes::Plan;
 use publication_log::{Change, Changes, Publication};
 
 // Whether a publication follows a version of so many records: it is the next one, it changes
-// something, and its changes can be made. It takes no memory.
+// something, and its changes can be made. No memory is taken.
 pub(crate) fn is_replayable(
     plan: &Plan,
     version: u64,

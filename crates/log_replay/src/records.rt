@@ -20,7 +20,7 @@ use publication_log::{Changes, Publication};
 /// # Errors
 ///
 /// `BadPublication` exactly when the publication does not follow the snapshot's version: nothing
-/// changes then. After `Memory` some of its changes may be made, and the snapshot is of no more
+/// changes then. After `Memory` some of its changes may be made, and the snapshot is of no further
 /// use.
 pub fn replay_records<H: RecordHolder>(
     held: &mut H,

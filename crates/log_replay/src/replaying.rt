@@ -28,9 +28,9 @@ use version_store::{EditError, Store};
 /// Why a publication was not replayed.
 #[derive(Clone, Copy, Debug, PartialEq, Eq, Error)]
 pub enum ReplayFault {
-    /// The publication does not follow: its version is not the next one, it changes nothing, or one of its
-    /// changes can't be made, because its place is past the next one, its bytes can't be a record,
-    /// or no layout has one record more.
+    /// The publication does not follow: its version is not the next one, it changes nothing, or one
+    /// of its changes can't be made, because its place is past the next one, its bytes can't be a
+    /// record, or no layout has one more record.
     #[error("the publication does not follow the version before it")]
     BadPublication,
     /// Memory was refused.
@@ -44,7 +44,7 @@ pub enum ReplayFault {
 ///
 /// `BadPublication` exactly when the publication does not follow the store's version: nothing
 /// changes then. After `Memory` some of its changes may be in the draft, and the store is of no
-/// more use.
+/// further use.
 pub fn replay<K: Kernel>(
     store: &mut Store<K>,
     publication: Publication<'_>,
@@ -77,7 +77,7 @@ pub fn replay<K: Kernel>(
 ///
 /// # Errors
 ///
-/// As [`replay`] of the first that it refuses. The store is of no more use then.
+/// As [`replay`] of the first that it refuses. The store is of no further use then.
 pub fn replay_all<K: Kernel>(
     store: &mut Store<K>,
     publications: Publications<'_>,

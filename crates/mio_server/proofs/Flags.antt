@@ -15,7 +15,7 @@ noted_flags : (readable writable : Bool) (o : Option Connection) → option_map 
 noted_flags readable writable None = refl
 noted_flags readable writable (Some c) = refl
 
--- where a socket is noted, only its flags change
+-- when a socket is noted, only its flags change
 pub note_flags : (places : List (Option Connection)) (place : ℕ) (readable writable : Bool)
     → OnlyFlagsChange places (set places place (noted readable writable (connection_at places place)))
 note_flags places place readable writable = λ i.
@@ -46,7 +46,7 @@ bare_there (Some d) p c e is =
     let both : Some (unflagged c) ≡ Some (unflagged d) = ap (option_map unflagged) (sym is) ∙ e in
     let same : unflagged c ≡ unflagged d = cc in (d, refl, same)
 
--- what is noted stays right where only flags change
+-- what is noted stays right if only flags change
 pub flags_noted : (before after : List (Option Connection)) (core : Core) (next : ℕ) → OnlyFlagsChange before after → AreNoted before core next → AreNoted after core next
 flags_noted before after core next flags n = record {
   noted = λ i c is. let h = there i c is in

@@ -16,7 +16,7 @@ use Rattle.mio_server.proofs.Leaving.{freed, given_there}
 use Rattle.mio_server.proofs.Flags.{bare_there}
 use Rattle.connection_table.proofs.Turned.{either_end}
 
--- what holds of none holds where a place is freed
+-- what holds of none holds when a place is freed
 pub none_is : (P : Connection → Type 0) (o : Option Connection) → o ≡ None → IfSome o P
 none_is P o e = subst (λ (k : Option Connection). IfSome k P) (sym e) tt
 
@@ -51,7 +51,7 @@ concluded_holds P o place d places before mid after new is_freed within puts clo
 idle_later : (idle scanned progress now : ℕ) → idle ≤ scanned - progress → progress ≤ scanned → scanned ≤ now → idle ≤ now - progress
 idle_later idle scanned progress now a b c = omega (arith, a, b, c)
 
--- who was idle at a moment is idle at each later one
+-- a connection that was idle at a moment is idle at each later one
 pub stays_idle : (c : Connection) (moment now idle : ℕ) → moment ≤ now → HasBeenIdle c moment idle → IsIdle c now idle
 stays_idle c moment now idle le h = record {
   stays = h.idles.stays;
@@ -117,7 +117,7 @@ each_place places after n moment idle le stays h i = elim (cases_lt i n) [
 pub of_noted : (P : ℕ → Type 0) (xs : List ℕ) (i k : ℕ) → slice_get xs k ≡ Some i → IfSome (slice_get xs k) P → P i
 of_noted P xs i k is h = subst (λ (o : Option ℕ). IfSome o P) is h
 
--- who has a turn has it among those that are noted, or with all
+-- a connection that has a turn has it among those that are noted, or with all
 pub turn_taken : (all : Bool) (ready still : List ℕ) (P Q : ℕ → Type 0) → (all ≡ true → (i : ℕ) → P i) → ((i : ℕ) → P i → Q i)
     → (all ≡ false → still ≡ ready) → ((k : ℕ) → IfSome (slice_get still k) Q) → (i : ℕ) → HasTurn all ready i → Q i
 turn_taken true ready still P Q each stays same noted i turn = stays i (each refl i)
@@ -125,14 +125,14 @@ turn_taken false ready still P Q each stays same noted i (inl never) = cc
 turn_taken false ready still P Q each stays same noted i (inr (k, is)) =
     of_noted Q still i k (subst (λ (r : List ℕ). slice_get r k ≡ Some i) (sym (same refl)) is) (noted k)
 
--- what keeps who was not idle at a moment keeps it at a moment that is the same
+-- what keeps a connection that was not idle at a moment keeps it at a moment that is the same
 pub stays_moved : (before after : List (Option Connection)) (s t s0 t0 : ℕ) → s ≡ s0 → t ≡ t0
     → ((i : ℕ) → HasNoIdle before i s t → HasNoIdle after i s t) → (i : ℕ) → HasNoIdle before i s0 t0 → HasNoIdle after i s0 t0
 stays_moved before after s t s0 t0 es et stays i h =
     subst (λ (x : ℕ). HasNoIdle after i x t0) es (subst (λ (x : ℕ). HasNoIdle after i s x) et (stays i
     (subst (λ (x : ℕ). HasNoIdle before i x t) (sym es) (subst (λ (x : ℕ). HasNoIdle before i s0 x) (sym et) h))))
 
--- who was not idle at a moment was not at one that is the same
+-- a connection that was not idle at a moment was not at one that is the same
 pub here_moved : (after : List (Option Connection)) (i s t s0 t0 : ℕ) → s ≡ s0 → t ≡ t0 → HasNoIdle after i s t → HasNoIdle after i s0 t0
 here_moved after i s t s0 t0 es et h = subst (λ (x : ℕ). HasNoIdle after i x t0) es (subst (λ (x : ℕ). HasNoIdle after i s x) et h)
 

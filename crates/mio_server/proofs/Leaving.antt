@@ -13,21 +13,21 @@ use Rattle.mio_server.specs.Sessions.{PutsOrEvicts, SessionsStayOrGo}
 pub given_there : (places : List (Option Connection)) (i : ℕ) (c : Option Connection) → i < length places → connection_at (set places i c) i ≡ c
 given_there places i c within = get_or-set_same places i c None within
 
--- a place that is freed is free, also one that there isn't
+-- a place that is freed is free, even one that doesn't exist
 pub freed : (places : List (Option Connection)) (i : ℕ) → connection_at (set places i None) i ≡ None
 freed places i = elim (cases_lt i (length places)) [
   | inl within ↦ get_or-set_same places i None None within
   | inr past ↦ get_or_past (set places i None) i None (subst (λ n. n ≤ i) (sym (length-set places i None)) past)
 ]
 
--- where there is a connection there is a place
+-- if there is a connection there is a place
 pub is_within : (places : List (Option Connection)) (i : ℕ) (c : Connection) → connection_at places i ≡ Some c → i < length places
 is_within places i c there = elim (cases_lt i (length places)) [
   | inl within ↦ within
   | inr past ↦ let no : None ≡ Some c = sym (get_or_past places i None past) ∙ there in cc
 ]
 
--- others stay where one place is given something
+-- others stay if one place is given something
 pub others_stay : (places : List (Option Connection)) (place : ℕ) (c : Option Connection) → OthersStayOrGo place places (set places place c)
 others_stay places place c = λ i ne. inl (get_or-set_other places place i c None ne)
 
@@ -38,7 +38,7 @@ goes_on place a b c first second = λ i ne. elim (second i ne) [
   | inr gone ↦ inr gone
 ]
 
--- where any place is freed, the others stay or go
+-- if any place is freed, the others stay or go
 pub one_goes : (place p : ℕ) (places : List (Option Connection)) → OthersStayOrGo place places (set places p None)
 one_goes place p places = λ i ne. elim (cases_eq i p) [
   | inl e ↦ inr (subst (λ k. connection_at (set places p None) k ≡ None) (sym e) (freed places p))

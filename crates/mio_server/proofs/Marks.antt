@@ -37,7 +37,7 @@ either_mark : (b : Bool) → (b ≡ true) ⊎ (b ≡ false)
 either_mark true = inl refl
 either_mark false = inr refl
 
--- what is marked in one place has its turn, where the place has it, or the connection was marked
+-- what is marked in one place has its turn, if the place has it, or the connection was marked
 -- before and had it
 noted_marked : (readable writable : Bool) (o : Option Connection) (A B : Type 0) → (A → B) → (IfSome o (λ c. c.queued ≡ false → B))
     → IfSome o (λ c. c.queued ≡ true → A) → IfSome (noted readable writable o) (λ c. c.queued ≡ true → B)
@@ -104,7 +104,7 @@ of_pair : (o : Option Connection) (A : Type 0) → IfSome o (λ c. (c.queued ≡
 of_pair None A h = tt
 of_pair (Some c) A h = λ _. h.1
 
--- who comes has its turn, and the others keep theirs
+-- the connection that comes has its turn, and the others keep theirs
 pub comes_marked : (before after : List (Option Connection)) (all all2 : Bool) (ready ready2 : List ℕ) → ((i : ℕ) → HasTurn all ready i → HasTurn all2 ready2 i)
     → ((i : ℕ) → ComesWithTurn before after all2 ready2 i) → AreMarkedNoted before all ready → AreMarkedNoted after all2 ready2
 comes_marked before after all all2 ready ready2 more comes marked i = elim (comes i) [
@@ -158,7 +158,7 @@ none_or_turn (Some c) moment idle A turn mark = elim (either_mark c.queued) [
   | inr off ↦ inl (λ was. let bad : true ≡ false = sym (mark was) ∙ off in cc)
 ]
 
--- who was idle has its turn, and goes by it
+-- a connection that was idle has its turn, and goes by it
 pub all_taken : (places after : List (Option Connection)) (all : Bool) (ready : List ℕ) (moment idle : ℕ) → AreMarkedNoted places all ready
     → ((i : ℕ) → IsMarkedIfIdle places i moment idle) → ((i : ℕ) → HasTurn all ready i → HasNoIdle after i moment idle)
     → ((i : ℕ) → HasNoIdle places i moment idle → HasNoIdle after i moment idle) → (i : ℕ) → HasNoIdle after i moment idle
@@ -176,8 +176,8 @@ pub turn_marked : (mid : List (Option Connection)) (place : ℕ) (all : Bool) (r
     → HasTurnIfMarked mid all ready place
 turn_marked mid place all ready h = unmarked_turn (connection_at mid place) (HasTurn all ready place) h
 
--- after a turn that leaves its place unmarked, and the others as they were or free, who had its
--- turn if marked has it still
+-- after a turn that leaves its place unmarked, and the others as they were or free, a connection
+-- that had its turn if marked has it still
 pub turn_marks_stay : (before mid : List (Option Connection)) (place : ℕ) (all : Bool) (ready : List ℕ) → IfSome (connection_at mid place) (λ c. c.queued ≡ false)
     → OthersStayOrGo place before mid → (i : ℕ) → HasTurnIfMarked before all ready i → HasTurnIfMarked mid all ready i
 turn_marks_stay before mid place all ready here others i h = elim (cases_eq i place) [
@@ -236,7 +236,7 @@ none_at zero i = refl
 none_at (suc n) zero = refl
 none_at (suc n) (suc i) = none_at n i
 
--- what holds of no connection holds where all places are free
+-- what holds of no connection holds if all places are free
 pub free_holds : (P : Connection → Type 0) (places : List (Option Connection)) (n : ℕ) → places ≡ replicate n None → (i : ℕ) → IfSome (connection_at places i) P
 free_holds P places n is i = none_is P (connection_at places i) (ap (λ (k : List (Option Connection)). connection_at k i) is ∙ none_at n i)
 
@@ -245,12 +245,12 @@ pub anyhow : (o : Option Connection) (A : Type 0) → A → IfSome o (λ c. c.qu
 anyhow None A h = tt
 anyhow (Some c) A h = λ _. h
 
--- a turn is one also where what is noted is the same
+-- a turn is still one if what is noted is the same
 pub turn_moved : (all all2 : Bool) (ready ready2 : List ℕ) (i : ℕ) → all2 ≡ all → ready2 ≡ ready → HasTurn all ready i → HasTurn all2 ready2 i
 turn_moved all all2 ready ready2 i same still h =
     subst (λ (r : List ℕ). HasTurn all2 r i) (sym still) (subst (λ (b : Bool). HasTurn b ready i) (sym same) h)
 
--- who has its turn if marked has it also where places and what is noted are the same
+-- a connection that has its turn if marked has it also if places and what is noted are the same
 pub marked_moved : (a b : List (Option Connection)) (all all2 : Bool) (ready ready2 : List ℕ) (i : ℕ) → b ≡ a → all2 ≡ all → ready2 ≡ ready
     → HasTurnIfMarked a all ready i → HasTurnIfMarked b all2 ready2 i
 marked_moved a b all all2 ready ready2 i is same still h = subst (λ (k : List (Option Connection)). HasTurnIfMarked k all2 ready2 i) (sym is)
@@ -261,7 +261,7 @@ pub either_way : (all : Bool) (P Q : Type 0) → (all ≡ true → Q) → (all �
 either_way true P Q each some h = each refl
 either_way false P Q each some h = some refl h
 
--- who is marked if idle at a moment is so at one that is the same
+-- a connection that is marked if idle at a moment is so at one that is the same
 pub idle_moved : (places : List (Option Connection)) (i s t s2 t2 : ℕ) → s2 ≡ s → t2 ≡ t → IsMarkedIfIdle places i s t → IsMarkedIfIdle places i s2 t2
 idle_moved places i s t s2 t2 es et h = subst (λ (x : ℕ). IsMarkedIfIdle places i x t2) (sym es) (subst (λ (x : ℕ). IsMarkedIfIdle places i s x) (sym et) h)
 
@@ -274,7 +274,8 @@ turn_stays : (all all2 : Bool) (ready ready2 : List ℕ) (i : ℕ) → (all ≡ 
 turn_stays all all2 ready ready2 i each same (inl is) = inl (each is)
 turn_stays all all2 ready ready2 i each same (inr (k, at)) = inr (k, subst (λ (r : List ℕ). slice_get r k ≡ Some i) (sym same) at)
 
--- who has its turn if marked has it also where each one has a turn, or what is noted is the same
+-- a connection that has its turn if marked has it also if each one has a turn, or what is noted is
+-- the same
 pub marks_stay : (a b : List (Option Connection)) (all all2 : Bool) (ready ready2 : List ℕ) → b ≡ a → (all ≡ true → all2 ≡ true) → ready2 ≡ ready
     → AreMarkedNoted a all ready → AreMarkedNoted b all2 ready2
 marks_stay a b all all2 ready ready2 places each same h = λ i. subst (λ (k : List (Option Connection)). HasTurnIfMarked k all2 ready2 i) (sym places)

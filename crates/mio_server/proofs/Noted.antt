@@ -128,7 +128,7 @@ none_at zero i = refl
 none_at (suc n) zero = refl
 none_at (suc n) (suc i) = none_at n i
 
--- nothing is noted where there is no connection
+-- nothing is noted if there is no connection
 pub none_noted : (places : List (Option Connection)) (n : ℕ) (core : Core) → places ≡ replicate n None → AreNoted places core 0
 none_noted places n core is = record {
   noted = λ i c there. absurd (empty i c there);

@@ -6,8 +6,8 @@ use Rattle.connection_turns.specs.Runs.{DoesToCore, Closes}
 use Rattle.connection_table.specs.declared.connection.Connection.{Connection}
 use Rattle.connection_table.specs.Places.{connection_at, LosesLargest}
 
--- A connection was put into a place. It is there, or one of those for which most is held went, with
--- its session and no other.
+-- A connection was put into a place. That connection is there, or one of those for which most is
+-- held went, with its session and no other.
 abbrev pub PutsOrEvicts : ℕ → Connection → List (Option Connection) → Core → List (Option Connection) → Core → Type 0
 PutsOrEvicts place c before old after new =
     ((after ≡ slice_set before place (Some c)) × (new ≡ old))

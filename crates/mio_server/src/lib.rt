@@ -1,8 +1,8 @@
 //! The loop of a server: many connections in one thread, over readiness.
 //!
-//! A connection and its turn are those of `connection_table`. This crate has the listener and who
-//! asks for the service's health: who may be accepted, whose turn it is, who is closed, and when
-//! the service stops.
+//! A connection and its turn are those of `connection_table`. `mio_server` has the listener and
+//! those who ask for the service's health, and decides who may be accepted, whose turn it is, who
+//! is closed, and when the service stops.
 //!
 //! Its tests are in tests/service, over the sockets of `pir_server run`.
 #![tactic(auto)]

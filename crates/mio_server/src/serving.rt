@@ -81,18 +81,18 @@ struct Service {
 
 /// Serves a store over connections, in one thread, until the process is killed, or, if there is a
 /// time of grace, until standard input has ended and then nothing that was begun is left, or that
-/// time is over. It prints `listening ADDR:PORT`, and a line for each connection that is closed
-/// before the end of its session. With a status address those who ask there get its health and its
-/// metrics until its end; it prints `status ADDR:PORT` then, too.
+/// time is over. The service prints `listening ADDR:PORT`, and a line for each connection that is
+/// closed before the end of its session. With a status address those who ask there get its health
+/// and its metrics until its end; it prints `status ADDR:PORT` then, too.
 ///
 /// The store's version is one that `saver` saved, or that was there to begin with. Each later one
-/// is saved by it before any connection is answered that it was published.
+/// is saved by it before any connection is told that it was published.
 ///
 /// # Errors
 ///
 /// `Input` if standard input is to be watched and can't be, `Connect` if the address can't be
-/// listened on, `Status` if that is so of the status address, `Write` if a version can't be
-/// saved or the address not be printed, `Memory` if there is none to begin with. After a `Write`
+/// listened on, `Status` if that is so of the status address, `Write` if a version can't be saved
+/// or the address not be printed, `Memory` if memory is refused to begin with. After a `Write`
 /// nothing was sent of the version that was not saved.
 pub fn run_service<S: Saver + Drop>(
     rt: &HostRuntime,
@@ -115,7 +115,8 @@ pub fn run_service<S: Saver + Drop>(
     }
 }
 
-// A service that listens, the room for its events, and who asks for its health, if that is wanted.
+// A service that listens, the room for its events, and those who ask for its health, if that is
+// wanted.
 #[derive(Drop)]
 struct Begun {
     service: Service,
@@ -144,7 +145,7 @@ fn begin(
     let status = match listen_for_status(rt, &service.poll, status) {
         Ok(status) => status,
         Err(fault) => {
-            // By a call: the prover would else take apart here all that a service owns.
+            // A call keeps the prover from taking apart here all that a service owns.
             drop(service);
             return Err(fault);
         }
@@ -296,7 +297,7 @@ fn bind(rt: &HostRuntime, poll: &Poll, address: SocketAddr) -> io::Result<TcpLis
     Ok(listener)
 }
 
-// Waits so many milliseconds at most for events. Returns when it is then, in milliseconds since the
+// Waits so many milliseconds at most for events. Returns the time then, in milliseconds since the
 // start.
 fn await_events(
     rt: &HostRuntime,
@@ -409,7 +410,7 @@ impl Service {
         Ok(())
     }
 
-    // Accepts nothing more from a moment on, and has each connection have a turn.
+    // Accepts nothing more from a moment on, and lets each connection have a turn.
     fn stop(&mut self, now: u64, grace: u64)
         ensures places { self.new.places ≡ self.old.places }
         ensures limits { self.new.limits ≡ self.old.limits }

@@ -22,7 +22,7 @@ record Going (read out : List ℕ) (work : Work) : Type 0 where
 same_rest : (a b : List ℕ) → Some a ≡ Some b → a ≡ b
 same_rest a b e = cc
 
--- what stands after the frames is the unfinished one
+-- what comes after the frames is the unfinished one
 rest_is : (read out : List ℕ) (work : Work) (w : WaitsForMore stage.Fresh read work.stage (Some work.unfinished) out) → work.unfinished ≡ w.rest
 rest_is read out work w = same_rest work.unfinished w.rest w.codec_is
 

@@ -78,7 +78,7 @@ ill_rest (stage.Loaded t) (b ∷ bs) g some = refl
 ill_rest stage.Done rest g some = let no : false ≡ true = g in cc
 ill_rest stage.Bad rest g some = refl
 
--- what is owed where the stream can't be read on
+-- what is owed if the stream can't be read on
 owed_at : (old : Stage) (frames : List Frame) (rest : List ℕ) → goes_on (stage_after old frames) ≡ true → (rest ≡ [] → ⊥) →
     encodings (replies_to old frames) ++ encoding (Refused 1) ≡ encodings (replies_to old frames)
     ++ cond (goes_on (stage_after old frames)) (rest_reply rest) []

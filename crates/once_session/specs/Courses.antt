@@ -76,14 +76,14 @@ pub record IsTable (t : Table) : Type 0 where
   pub rows : t.digits.rows ≡ digit_rows t.layout
   pub cols : t.digits.cols ≡ digit_cols t.layout
 
--- the database of a stage, where it has one, is such
+-- the database of a stage, if it has one, is such
 abbrev pub HasTable : Stage → Type 0
 HasTable Fresh = Unit {0}
 HasTable (Loaded t) = IsTable t
 HasTable Done = Unit {0}
 HasTable Bad = Unit {0}
 
--- what a frame does: its reply, and the stage that it leads to, where it leads to another
+-- what a frame does: its reply, and the stage that it leads to, if it leads to another
 pub record WorkSteps (st : Stage) (f : Frame) (answer : Option Frame) (moves : Option Stage) : Type 0 where
   pub reply_is : answer ≡ reply st f
   pub stage_is : unwrap_or moves st ≡ next st f

@@ -1,4 +1,4 @@
--- What faults are called where they are printed.
+-- What faults are called when they are printed.
 use Rattle.std.specs.Prelude.{ℕ, List, codes}
 use Rattle.once_session.specs.declared.engine.OnceFault.{OnceFault}
 use Rattle.once_session.specs.declared.engine.OnceFault.TheVariants as once

@@ -102,6 +102,6 @@ pub record ServesWorkTurns {C : Type 0} (does : C → Call → C → Type 0) (tu
   pub begun : WorkGoesOn does fresh_work a before work middle
   pub ends : EndsWorkTurns does turns (length before) work middle result b
 
--- what all turns did; or there was no memory to begin with, and no call was made
+-- what all turns did; or memory was refused at the start, and no call was made
 abbrev pub ServesWorkOver : {C : Type 0} → (C → Call → C → Type 0) → ℕ → C → Result (Unit {0}) OnceFault → C → Type 0
 ServesWorkOver does turns a result b = ((result ≡ Err fault.Memory) × (b ≡ a)) ⊎ ServesWorkTurns does turns a result b

@@ -25,7 +25,7 @@ abbrev pub rest_reply : List ℕ → List ℕ
 rest_reply [] = []
 rest_reply (b ∷ bs) = encoding (Refused 1)
 
--- the bytes that a stream is answered: the replies to its frames in order, and to the rest where no
+-- the bytes that a stream is answered: the replies to its frames in order, and to the rest if no
 -- frame ended it before
 abbrev pub output_of : List Frame → List ℕ → List ℕ
 output_of frames rest = encodings (replies_to Fresh frames) ++ cond (goes_on (stage_after Fresh frames)) (rest_reply rest) []
@@ -39,8 +39,8 @@ is_well Fresh (b ∷ bs) = false
 is_well (Loaded t) [] = true
 is_well (Loaded t) (b ∷ bs) = false
 
--- Nothing more comes of what was read: where no frame ended it, no frame begins the rest, and a
--- rest that more bytes could make a frame is all that there is
+-- Nothing more comes of what was read: if no frame ended it, no frame begins the rest, and a rest
+-- that more bytes could make a frame is all that there is
 pub record IsLast (st : Stage) (rest : List ℕ) (left : Option (List ℕ)) : Type 0 where
   pub no_frame : goes_on st ≡ true → HasFrame false rest → ⊥
   pub no_more : goes_on st ≡ true → IsPartial false rest → IsAtEnd left
@@ -66,7 +66,7 @@ pub record IsOnceReply (read out : List ℕ) : Type 0 where
 abbrev pub IsPrefixOf : List ℕ → List ℕ → Type 0
 IsPrefixOf prefix all = (rest : List ℕ) × (all ≡ prefix ++ rest)
 
--- a prefix of what is owed for what was read: of the replies to its frames, or of all where nothing
+-- a prefix of what is owed for what was read: of the replies to its frames, or of all if nothing
 -- more comes
 pub record IsStreamCut (read out : List ℕ) (left : Option (List ℕ)) : Type 0 where
   pub frames : List Frame
@@ -75,7 +75,7 @@ pub record IsStreamCut (read out : List ℕ) (left : Option (List ℕ)) : Type 0
   pub prefix : IsPrefixOf out (encodings (replies_to Fresh frames)) ⊎ (IsLast (stage_after Fresh frames) rest left × IsPrefixOf out (output_of frames rest))
 
 -- Memory was refused to work that was open: the replies to whole frames went out, all of each, and
--- no fault that the length or the kind makes stands in what follows these frames.
+-- what follows these frames has no fault of a length or a kind.
 pub record LacksMemoryAfter (old : Stage) (stream out : List ℕ) : Type 0 where
   pub frames : List Frame
   pub rest : List ℕ

@@ -35,7 +35,7 @@ pub enum OnceFault {
     /// A write failed, or took no byte.
     #[error("a write failed")]
     Write,
-    /// There was no memory.
+    /// Memory was refused.
     #[error("out of memory")]
     Memory,
     /// All turns were used before the stream ended.
@@ -111,7 +111,7 @@ fn answer_frame<K: Kernel, C: Connection>(
     Ok(())
 }
 
-// Writes a reply, where there is one.
+// Writes a reply, if there is one.
 fn send_reply<C: Connection>(
     alloc: Global,
     reply: &Option<Frame>,
@@ -133,7 +133,7 @@ fn send_reply<C: Connection>(
     }
 }
 
-// Goes to the next stage, where it is another one.
+// Goes to the next stage, if it is another one.
 fn move_on(stage: &mut Stage, moves: Option<Stage>)
     ensures { stage.new ≡ unwrap_or moves stage.old }
 {
@@ -177,8 +177,8 @@ pub(crate) fn goes_on(stage: &Stage) -> bool
     matches!(stage, Stage::Fresh | Stage::Loaded(_))
 }
 
-/// The bytes of a refusal with code 1. They are made before anything is read, so that a frame that
-/// was judged bad can be refused without further memory.
+/// The bytes of a refusal with code 1, made before anything is read, so that a frame that was
+/// judged bad can be refused without further memory.
 pub(crate) fn refusal_bytes(alloc: Global) -> Result<Vec<u8>, AllocError>
     ensures { IfOk result (λ bytes. bytes.items ≡ encoding (Refused 1)) }
 {
@@ -200,8 +200,8 @@ pub(crate) fn refuse<C: Connection>(refusal: &[u8], connection: &mut C) -> Resul
     }
 }
 
-// Ends the work where the stream can't be read on: what stands there is refused, or memory was. A
-// frame that was judged bad is never answered as memory.
+// Ends the work when the stream can't be read on: what is there is refused, or memory was. A frame
+// that was judged bad is never returned as `Memory`.
 fn stop<C: Connection>(
     refusal: &[u8],
     fault: ReadFault,
@@ -230,8 +230,8 @@ fn stop<C: Connection>(
     }
 }
 
-// Serves the frames that a piece brought, and then what stopped the reading. Memory is answered
-// only where it was refused: for a frame, or to the reading.
+// Serves the frames that a piece brought, and then what stopped the reading. `Memory` is returned
+// only if memory was refused: for a frame, or to the reading.
 fn serve_read<K: Kernel, C: Connection>(
     alloc: Global,
     kernel: K,

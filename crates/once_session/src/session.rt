@@ -18,7 +18,7 @@ use matrix_u32::Kernel;
 use std::alloc::Global;
 use std::io::{Read, Write};
 
-// Ends the work where the stream ends: a frame that is cut is refused.
+// Ends the work when the stream ends: a frame that is cut is refused.
 fn finish<C: Connection>(
     refusal: &[u8],
     codec: &Reader,
@@ -38,7 +38,7 @@ fn finish<C: Connection>(
     Err(OnceFault::BadInput)
 }
 
-// How the work ended, where a frame ended it.
+// How the work ended, if a frame ended it.
 fn ended(stage: &Stage) -> Result<(), OnceFault>
     ensures well { OnOk result (is_done stage.now ≡ true) }
     ensures ill { IfErr result (λ e. (e ≡ OnceFault.BadInput) × (is_done stage.now ≡ false)) }
@@ -131,11 +131,11 @@ pub fn once_with<K: Kernel, R: Read, W: Write>(
 ///
 /// # Errors
 ///
-/// `BadInput` where the stream was refused with code 1, `Read` and `Write` where a reader or a
-/// writer fails, `Memory` where it is refused, `TurnsUsedUp` where the stream hadn't ended after
-/// all turns. At each what was written is the replies to what was read, or at `Write` a prefix of
-/// them. At `Memory` it is the replies to the first frames read, which left the work open, and in
-/// what follows these frames stands no length that is too large and no unknown kind.
+/// `BadInput` if the stream was refused with code 1, `Read` and `Write` if a reader or a writer
+/// fails, `Memory` if memory is refused, `TurnsUsedUp` if the stream hadn't ended after all turns.
+/// At each what was written is the replies to what was read, or at `Write` a prefix of them. At
+/// `Memory` it is the replies to the first frames read, which left the work open, and what follows
+/// these frames has no length that is too large and no unknown kind.
 pub fn once<R: Read, W: Write>(
     alloc: Global,
     reader: &mut R,

@@ -74,7 +74,7 @@ pub enum Stage {
     Bad,
 }
 
-// The layout of a Load's records, where its fields are accepted and its bytes are whole records.
+// The layout of a Load's records, if its fields are accepted and its bytes are whole records.
 #[tactic(auto, unfolding(digit_pack::specs::Layout::is_layout))]
 fn load_layout(record_len: u16, groups: u16, width: u8, bytes: &[u8]) -> Option<Layout>
     ensures none { IfNone result (is_load record_len groups width bytes.now ≡ false) }
@@ -94,12 +94,12 @@ fn load_layout(record_len: u16, groups: u16, width: u8, bytes: &[u8]) -> Option<
     Layout::new(u32::from(width), record_len, usize::from(groups), count).ok()
 }
 
-/// What a frame does: its reply, and the stage that it leads to, where it leads to another.
+/// What a frame does: its reply, and the stage that it leads to, if it leads to another.
 #[derive(Drop)]
 pub struct StageStep {
-    /// The reply, where there is one.
+    /// The reply, if there is one.
     pub reply: Option<Frame>,
-    /// The next stage, where it is another one.
+    /// The next stage, if it is another one.
     pub moves: Option<Stage>,
 }
 
@@ -114,7 +114,7 @@ fn refuse() -> StageStep
     }
 }
 
-// The first frame, where it is a Load.
+// The first frame, if it is a Load.
 fn load(
     alloc: Global,
     record_len: u16,

@@ -20,7 +20,7 @@ abbrev pub IsFault : List ℕ → Failure → Type 0
 IsFault name (failure.Fault said) = said.now ≡ name
 IsFault name _ = ⊥
 
--- a refused call; lack of memory has a failure of its own
+-- a refused call; refused memory has a failure of its own
 abbrev pub IsCallFault : CallFault → Failure → Type 0
 IsCallFault call.Memory said = said ≡ failure.Memory
 IsCallFault fault said = IsFault (call_fault_name fault) said

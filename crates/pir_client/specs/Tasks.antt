@@ -22,7 +22,7 @@ abbrev pub IsTimeout : Option ℕ → Type 0
 IsTimeout None = Unit {0}
 IsTimeout (Some seconds) = (1 ≤ seconds) × (seconds ≤ 86400)
 
--- the number of a retrieval is one that there is, a key is a publisher's, and the bytes of a record
+-- the number of a retrieval is a possible one, a key is a publisher's, and the bytes of a record
 -- fit a frame
 abbrev pub TaskFits : Task → Type 0
 TaskFits (Get server seed number least scheme index) = (number < 2 ^ 62) × IsDimension least

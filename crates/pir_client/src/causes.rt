@@ -1,8 +1,8 @@
-//! What is behind a failure, as its second line says.
+//! What caused a failure, as its second line says.
 
 use command_words::Failure;
 
-/// What is behind a failure that its line does not say; nothing if the line says it all.
+/// What caused a failure, if its line does not say it; nothing if the line says it all.
 pub fn cause_of(failure: Failure) -> Option<&'static str> {
     match failure {
         Failure::Refused(code) => Some(cause_of_refusal(code)),

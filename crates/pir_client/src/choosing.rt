@@ -37,7 +37,7 @@ impl SchemeChoice {
             return Ok(Scheme::Simple);
         };
         let held = HintsHeld {
-            // A hint of few publications before is moved by a delta, which is short beside the
+            // A hint of a few publications before is moved by a delta, which is short beside the
             // hint.
             simple: is_kept(folder, Scheme::Simple, now, DELTAS)?,
             double: is_kept(folder, Scheme::Double, now, 0)?,

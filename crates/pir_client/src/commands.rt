@@ -136,7 +136,7 @@ fn get_record(
         Ok(got) => print_record(rt, &got)?,
         Err(fault) => return Err(server.failed(address, failure_of(fault))),
     }
-    // A command that fails says so alone, so the warning stands only beside a record.
+    // A command that fails says nothing else, so the warning is printed only beside a record.
     if least.is_none() {
         warn_of_short_secrets(rt, &client);
     }

@@ -9,7 +9,7 @@ use std::io::{Read, Write};
 /// How many bytes an ask for a delta has, and one for changed records.
 const DELTA_ASK_LEN: usize = 13;
 
-/// The frame Refused, with the code for a part that there is not.
+/// The frame Refused, with the code for a part that doesn't exist.
 const REFUSED: [u8; 6] = [1, 0, 0, 0, 0x8f, 10];
 
 /// What has gone over a connection over which the client asks for a delta. When there is none, the

@@ -9,7 +9,7 @@ use pir_schemes::PART_WORDS;
 use session_core::{CallFault, ConverseFault, Scheme, ServerInfo};
 use std::io::{ErrorKind, Read, Write};
 
-/// How many bytes stand before the words of a part: the frame's length, its kind, the scheme, the
+/// How many bytes come before the words of a part: the frame's length, its kind, the scheme, the
 /// version and the part.
 const HEAD_LEN: usize = 18;
 
@@ -121,10 +121,10 @@ fn ask_for_part(
     Ok(Reply::Part)
 }
 
-/// A reply that is none of those that an ask for a part may get.
+/// A reply other than those that an ask for a part may get.
 const BAD_REPLY: CommandError = CommandError::Conversation(ConverseFault::BadReply);
 
-// Reads over what a reply has that is no part: a few bytes.
+// Reads and drops what a reply has that is no part: a few bytes.
 fn skipped(server: &Server, len: u32) -> Result<Reply, CommandError> {
     let mut next = [0u8; 1];
     for _ in 0..len {

@@ -62,8 +62,8 @@ fn fresh_seed(rt: &HostRuntime) -> Result<[u8; 32], Failed> {
     }
 }
 
-// Takes a folder of before over, if it is one. If its hint can't be kept, nothing is removed, and
-// the next run tries again.
+// Takes over a folder in the earlier format, if it is one. If its hint can't be kept, nothing is
+// removed, and the next run tries again.
 fn taken_over(folder: &Folder<'_>) -> Result<Option<OldFolder>, AllocError> {
     match folder.take_old() {
         Ok(old) => Ok(old),
@@ -72,7 +72,7 @@ fn taken_over(folder: &Folder<'_>) -> Result<Option<OldFolder>, AllocError> {
     }
 }
 
-// Says that a folder of before was taken over.
+// Says that a folder in the earlier format was taken over.
 fn warn_of_old(rt: &HostRuntime, old: Option<OldFolder>) {
     if old.is_some() {
         let _ = eprintln!(rt;
@@ -104,8 +104,7 @@ fn session_of_no_older<'a>(
     }
 }
 
-// How a command failed that came upon servers of older versions alone, with the version of the last
-// one.
+// How a command failed that found only servers of older versions, with the version of the last one.
 fn older_failed(rt: &HostRuntime, older: Older) -> Failed {
     let connections = MORE_CONNECTIONS + 1;
     let Older { version, seen } = older;

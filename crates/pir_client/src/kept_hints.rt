@@ -188,7 +188,7 @@ impl<'a> MovedHint<'a> {
 /// Memory was refused.
 const MEMORY: CommandError = CommandError::Call(CallFault::Memory);
 
-/// A reply that is none of those that the ask may get.
+/// A reply other than those that the ask may get.
 const BAD_REPLY: CommandError = CommandError::Conversation(ConverseFault::BadReply);
 
 // Whether a hint has the rows and columns of a plan, of which so many records have a layout.

@@ -4,7 +4,8 @@
 //! Exit statuses: 0 done, 1 refused by the server, 2 a bad command line, 3 a fault, 4 out of
 //! memory. What was done is one line on standard output; a failure is one line on standard error.
 //!
-//! Its tests are in `tests/command_line`, `tests/loopback` and `tests/rehearse`.
+//! Its tests are in `tests/command_line`, `tests/causes`, `tests/streams`, `tests/order`,
+//! `tests/loopback`, `tests/state` and `tests/rehearse`.
 #![tactic(auto)]
 
 mod causes;

@@ -166,7 +166,7 @@ fn time_left(rt: &HostRuntime, began: Instant, seconds: u64) -> io::Result<Durat
     }
 }
 
-// Whether a call ended since its time was up.
+// Whether a call ended because its time was up.
 fn is_timeout(kind: ErrorKind) -> bool {
     kind == ErrorKind::WouldBlock || kind == ErrorKind::TimedOut
 }

@@ -31,8 +31,8 @@ const STALE_ANSWERS: u32 = 3;
 pub enum RetrieveError {
     /// A call failed.
     Command(CommandError),
-    /// The hint kept is damaged where the record's rows stand. The record was asked for all the
-    /// same, but its answer can't be read.
+    /// The hint kept is damaged at the record's rows. The record was asked for all the same, but
+    /// its answer can't be read.
     DamagedHint,
 }
 
@@ -149,7 +149,7 @@ impl<'a> Session<'a> {
     }
 
     /// Prepares so many retrievals at once, if they are more than one. Their records have no part
-    /// in it. Without memory for it each is made by itself.
+    /// in it. If memory for it is refused, each is made by itself.
     pub fn prepare(&mut self, count: usize) {
         if count > 1 {
             let _ = self.client.prepare_queries(count);
@@ -199,7 +199,7 @@ impl<'a> Session<'a> {
     }
 
     // Moves the hint kept to the version known, if the server says which records have changed. One
-    // that it can't move is of no more use.
+    // that it can't move is of no further use.
     fn move_kept(&mut self) -> Result<(), CommandError> {
         let (Some(kept), Some(now)) = (&mut self.kept, self.client.known()) else {
             return Ok(());
@@ -213,7 +213,7 @@ impl<'a> Session<'a> {
         Ok(())
     }
 
-    // Writes the hint kept anew, as its changes have moved it. One that is damaged is of no more
+    // Writes the hint kept anew, as its changes have moved it. One that is damaged is of no further
     // use.
     fn fold(&mut self) -> Result<(), CommandError> {
         let Some(kept) = &self.kept else {
@@ -256,7 +256,7 @@ impl<'a> Session<'a> {
     }
 
     // Asks for a record over its rows, which the client doesn't hold any more then. None if the
-    // hint is of another store: then nothing was asked, and the hint is of no more use.
+    // hint is of another store: then nothing was asked, and the hint is of no further use.
     fn ask_over(&mut self, rows: Rows, index: u32) -> Result<Option<Retrieved>, RetrieveError> {
         let Rows { saved, are_sound } = rows;
         let asked = ask_with_rows(
@@ -353,7 +353,7 @@ impl<'a> Session<'a> {
         Ok(true)
     }
 
-    // Fetches the hint through the folder, and takes it up. Whether that could be done.
+    // Fetches the hint through the folder, and takes it up. Returns whether that could be done.
     fn fetch_parts(&mut self) -> Result<bool, CommandError> {
         let Some(known) = self.client.known() else {
             return Ok(false);

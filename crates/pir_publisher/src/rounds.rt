@@ -66,7 +66,7 @@ impl Rounds {
         })
     }
 
-    /// Milliseconds since the start; the clock that can't be read stands still.
+    /// Milliseconds since the start; a clock that can't be read stays at one time.
     pub fn now(&self, rt: &HostRuntime) -> u64 {
         match self.start.elapsed(rt) {
             Ok(elapsed) => u64::try_from(elapsed.as_millis()).unwrap_or(u64::MAX),
@@ -81,9 +81,9 @@ impl Rounds {
             .poll(&mut self.events, Some(Duration::from_millis(millis)));
     }
 
-    /// Brings these servers to a folder's version, as [`Rounds::run`] does, and then greets those
-    /// anew that are there, to see that they have as many records as the folder: what a session of
-    /// before had appended, whose end a server has not seen yet, would be in their version, too.
+    /// Brings these servers to a folder's version, as [`Rounds::run`] does, and then greets anew
+    /// those that are there, to see that they have as many records as the folder: what an earlier
+    /// session had appended, whose end a server has not seen yet, would be in their version, too.
     ///
     /// # Errors
     ///
@@ -113,7 +113,7 @@ impl Rounds {
         Ok(ends)
     }
 
-    /// Has these servers their part side by side, each of which may say nothing for so many
+    /// Gives these servers their part side by side, each of which may say nothing for so many
     /// milliseconds, and returns how it ended with each, in their order.
     ///
     /// # Errors
@@ -188,8 +188,8 @@ impl Rounds {
         (open, busy)
     }
 
-    // Gives a connection a turn, if there is one, and takes it away when its part has ended, which
-    // it returns how.
+    // Gives a connection a turn, if there is one, and takes it away when its part has ended.
+    // Returns how it ended.
     fn turn<'a>(
         &mut self,
         round: &Round<'a>,

@@ -56,7 +56,7 @@ impl<'a> Round<'a> {
         Round::to_ask(self.folder)
     }
 
-    // The publications that a server lacks that has the first so many.
+    // The publications that a server with only the first so many lacks.
     fn publications_after(&self, count: usize) -> Publications<'a> {
         self.folder.publications().without_first(count)
     }
@@ -315,7 +315,7 @@ impl<'a> Talk<'a> {
     }
 }
 
-// Whether a call failed since no connection was made.
+// Whether a call failed because no connection was made.
 fn is_refusal(kind: ErrorKind) -> bool {
     matches!(
         kind,

@@ -11,7 +11,7 @@ use std::alloc::Global;
 /// What comes next.
 #[derive(Drop)]
 pub enum Verified {
-    /// These bytes are to be sent; there may be none.
+    /// The bytes that are to be sent; there may be none.
     Sends(Vec<u8>),
     /// Each record that was changed is the folder's, in this version.
     All(u64),

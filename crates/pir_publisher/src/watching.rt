@@ -19,7 +19,7 @@ const FIRST_REST: u64 = 1_000;
 
 const LONGEST_REST: u64 = 60_000;
 
-/// How many milliseconds a server may say nothing that was away before, while the others wait.
+/// How many milliseconds a server that was away before may say nothing, while the others wait.
 const SHORT_SILENCE: u64 = 2_000;
 
 // What is known of a server that is kept at the folder's version.

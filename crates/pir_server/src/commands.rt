@@ -36,8 +36,8 @@ pub fn run(rt: &HostRuntime) -> u8 {
     }
 }
 
-// Says why a server that ran has ended, and returns the exit status. Nobody is waited for who is to
-// read it: a server that has failed is to end.
+// Says why a server that ran has ended, and returns the exit status. No reader of it is waited for:
+// a server that has failed is to end.
 fn said(rt: &HostRuntime, failed: &Failed, verbose: bool) -> u8 {
     let failure = failed.failure;
     let lines = match &failed.cause {

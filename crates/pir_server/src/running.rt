@@ -28,13 +28,13 @@ const STATUS_DESCRIPTORS: u64 = 9;
 ///
 /// # Errors
 ///
-/// In this order: `File` if there is no file, `Locked` if another process has it, those of
-/// the snapshot, `Write` if the file can't be sent to the device, those of its log (`File`,
-/// `BadLog`, `Write` if a torn end can't be cut off, or if a log that is too long can't be
-/// made shorter), `Input` if standard input is to be watched and can't be, `Connect` if the
-/// address or that of `--status` can't be listened on, and `Write` if one can't be printed, or
-/// what is left of a failed append can't be cut off. `Memory` if there was none. A connection
-/// that is closed before its end is reported on standard error, and ends nothing else.
+/// In this order: `File` if there is no file, `Locked` if another process has it, those of the
+/// snapshot, `Write` if the file can't be sent to the device, those of its log (`File`, `BadLog`,
+/// `Write` if a torn end can't be cut off, or if a log that is too long can't be made shorter),
+/// `Input` if standard input is to be watched and can't be, `Connect` if the address or that of
+/// `--status` can't be listened on, and `Write` if one can't be printed, or what is left of a
+/// failed append can't be cut off. `Memory` if memory was refused. A connection that is closed
+/// before its end is reported on standard error, and ends nothing else.
 pub fn run_file(rt: &HostRuntime, options: &RunOptions<'_>) -> Result<(), Failed> {
     let mut file = match OwnFile::to_read(rt, options.file) {
         Ok(file) => file,
@@ -172,7 +172,7 @@ fn other_descriptors(options: &RunOptions<'_>) -> u64 {
     }
 }
 
-// How many of the connections that are asked for so many descriptors have room for beside so many
+// How many of the connections that are asked for fit into so many descriptors beside so many
 // others: one at least.
 fn within_descriptors(asked: usize, descriptors: u64, others: u64) -> usize
     ensures { result ≡ min asked (max 1 (descriptors - others)) }

@@ -43,8 +43,8 @@ abbrev pub after_steps : Device → List Step → Device
 after_steps device [] = device
 after_steps device (step ∷ steps) = after_steps (after_step device step) steps
 
--- Torn bytes after a log that is on the device. Of bytes that are no prefix of what was written or
--- cut off this is supposed: that by chance no entry with its SHA-256 is among them.
+-- Torn bytes after a log that is on the device. Bytes that are no prefix of what was written or cut
+-- off are supposed to have no entry with its SHA-256 among them by chance.
 abbrev pub IsTornTail : LogHeader → List ℕ → List ℕ → Type 0
 IsTornTail h synced tail = (ps : List Published) × AreNext h.version ps × (synced ≡ log_bytes h ps) × IsTorn (end_link h ps) tail
 

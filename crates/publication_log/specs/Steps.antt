@@ -57,7 +57,7 @@ Appends does bytes old result new = FoldsTo does old (append_course bytes result
 abbrev pub Cuts : {D T : Type 0} → (D → Step → D → Type 0) → ℕ → D → Result T CutFault → D → Type 0
 Cuts does len old result new = FoldsTo does old (cut_course len result) new
 
--- whether a log has a torn end after an append, if that is known of before
+-- whether a log has a torn end after an append, if that is known from before
 abbrev pub is_torn_after : {T : Type 0} → Bool → Result T AppendFault → Bool
 is_torn_after before (Ok _) = false
 is_torn_after before (Err appends.Memory) = before
@@ -66,7 +66,7 @@ is_torn_after before (Err appends.Full) = before
 is_torn_after before (Err appends.Write) = true
 is_torn_after before (Err appends.Sync) = true
 
--- whether a log has a torn end after a cut, if that is known of before
+-- whether a log has a torn end after a cut, if that is known from before
 abbrev pub is_torn_after_cut : {T : Type 0} → Bool → Result T CutFault → Bool
 is_torn_after_cut before (Ok _) = false
 is_torn_after_cut before (Err _) = before

@@ -91,7 +91,7 @@ impl PublicationBuilder {
     ///
     /// # Errors
     ///
-    /// The first of [`ChangeFault`] that there is: nothing changes then.
+    /// The first of [`ChangeFault`] that applies: nothing changes then.
     pub fn push(&mut self, place: u32, bytes: &[u8]) -> Result<(), ChangeFault>
         ensures added { OnOk result (AddsChange self.old self.new
             (record { place = place; bytes = bytes.now })) }

@@ -18,7 +18,7 @@ use thiserror::Error;
 /// Why a log's file was not opened.
 #[derive(Clone, Copy, Debug, PartialEq, Eq, Error)]
 pub enum OpenFault {
-    /// The file can't be made, opened or read, or is none, as a folder.
+    /// The file can't be made, opened or read, or is not a file (but a folder, for example).
     #[error("the log's file can't be opened")]
     File,
     /// The file is no good log of the snapshot. Nothing was cut off.
@@ -71,9 +71,9 @@ impl<F: Write + OpenFile> Disk for LogFile<F> {
 }
 
 /// Opens the log of a snapshot, or makes it. A torn end is cut off. The file and its name are sent
-/// to the device first: what a process wrote that was killed is seen, and need not be there yet.
-/// The last entry is written once more, in its place, before that: what a sync that failed has lost
-/// is still seen, and a later sync alone would not bring it. No more memory is taken than for the
+/// to the device first: what a killed process wrote is seen, and need not be on the device yet. The
+/// last entry is written once more, in its place, before that: what a failed sync has lost is still
+/// seen, and a later sync alone would not bring it back. No more memory is taken than for the
 /// file's bytes and its header.
 ///
 /// A new file has its header as soon as it has the name, and mode 0600. Whoever calls this has the
@@ -217,7 +217,7 @@ fn sync_name<R: FileSystem>(rt: &R, name: &str) -> Result<(), OpenFault> {
     };
     match folder.sync_all() {
         Ok(()) => Ok(()),
-        // A file system on which a folder can't be synced: there is no more that could be done.
+        // A file system on which a folder can't be synced: nothing more can be done.
         Err(fault) if fault.kind() == ErrorKind::InvalidInput => Ok(()),
         Err(_) => Err(OpenFault::File),
     }

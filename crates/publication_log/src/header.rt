@@ -5,8 +5,7 @@ ghost use Rattle.publication_log.specs.Logs.{header_bytes, log_name};
 
 use std::alloc::{AllocError, Global};
 
-/// What stands between a file's name and the digits of its snapshot's digest, in the name of the
-/// log.
+/// What is between a file's name and the digits of its snapshot's digest, in the name of the log.
 pub(crate) const LOG_MARK: &str = ".log-";
 
 /// How many bytes of a snapshot's digest are in the name of its log.

@@ -23,7 +23,7 @@ impl ReadLog {
     ghost use Rattle.std.specs.Prelude.{◌≡◌, ◌-◌};
     ghost use Rattle.publication_log.specs.Opened.{entries_in, entries_of};
 
-    // These bytes, in which that was found.
+    // The bytes in which that was found.
     pub(crate) fn of(bytes: Vec<u8>, found: &Found) -> ReadLog
         requires order { found.now.start ≤ found.now.len }
         requires within { found.now.len ≤ vec_len bytes }

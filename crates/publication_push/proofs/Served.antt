@@ -136,7 +136,7 @@ read_only x h (Edits place bytes) o (inr (takes, e)) = absurd (let no : ⊥ = cc
 read_only x h (Appends bytes) o (inr (takes, e)) = absurd (let no : ⊥ = cc in no)
 read_only x h (Publishes version) o (inr (takes, e)) = absurd (let no : ⊥ = cc in no)
 
--- orders that are served in a session of any standing, and of which each reply is a Done, are done
+-- orders that are served in a session at any stage, and of which each reply is a Done, are done
 served_in : (x : Setting) (os : List Ordered) (h new : History) (old standing : Standing) (versions : List ℕ) → is_closed old ≡ false →
     ServesAll x h old (map frame_of os) new standing (dones versions) → new ≡ after_orders os h
 served_in x os h new Closed standing versions open_is served = absurd (let no : ⊥ = cc in no)

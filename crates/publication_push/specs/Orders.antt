@@ -1,4 +1,4 @@
--- What a server is asked for, that it comes to have the publications that it lacks.
+-- What a server is asked for, so that it comes to have the publications that it lacks.
 use Rattle.std.specs.Prelude.{◌≡◌, nat_lt, if◌then◌else◌, ℕ, List, [], ◌∷◌, ◌++◌, Option, Some, None}
 use Rattle.frame_codec.specs.declared.frame.Frame.{Frame}
 use Rattle.frame_codec.specs.declared.frame.Frame.TheVariants as frame

@@ -34,7 +34,7 @@ order_bytes (Edits place bytes) = bytes
 order_bytes (Appends bytes) = bytes
 order_bytes (Publishes version) = []
 
--- why an order was not sent: the client refused the call, or its record is none of a log
+-- why an order was not sent: the client refused the call, or its record is not one of a log
 abbrev pub IsUnsent : Client → Ordered → PushFault → Client → Type 0
 IsUnsent client o (fault.Call why) new = Refuses client.state (call_of o) why new.state
 IsUnsent client o fault.BadLog new = (new ≡ client) × (65535 < length (order_bytes o))

@@ -8,8 +8,8 @@ ghost use Rattle.publication_push.specs.Laws.{DonesAreReplies};
 /// Done, has the history that these publications make of its own, and is at the version of the last
 /// of them (`replayed`). So a server that had the history of a log's earlier publications, and was
 /// sent the later ones, has that of the log (`whole`). The versions that these Dones name are the
-/// ones that are awaited (`named`). It is so of the first frames of a session too, after whatever
-/// greeting (`session`).
+/// ones that are awaited (`named`). The same holds of the first frames of a session too, after
+/// whatever greeting (`session`).
 pub fn pushed_is_replayed()
     ensures replayed { PushedIsReplayed }
     ensures whole { PushesAddUp }

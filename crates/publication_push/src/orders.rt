@@ -1,4 +1,4 @@
-//! What a server is asked for, that it comes to have publications.
+//! What a server is asked for, so that it comes to have publications.
 
 ghost use Rattle.std.specs.Prelude.{◌≡◌, ◌<◌, ◌+◌, ◌∷◌, [], ℕ, List, IfNone, IfSome};
 ghost use Rattle.publication_log.specs.Publications.{Placed, Published, changes_bytes, AreChanges};
@@ -14,7 +14,7 @@ use publication_log::{Change, Publication, Publications};
 /// What a server is asked for.
 #[derive(Clone, Copy, Debug)]
 pub enum Order<'a> {
-    /// These bytes for the record at this place.
+    /// The bytes for the record at this place.
     Edit { place: u32, bytes: &'a [u8] },
     /// A record of these bytes after the last one.
     Append { bytes: &'a [u8] },
@@ -22,7 +22,7 @@ pub enum Order<'a> {
     Publish { version: u64 },
 }
 
-/// What a server is asked for, that it comes to have publications: handed out one after another.
+/// What a server is asked for, so that it comes to have publications: handed out one after another.
 #[derive(Clone, Copy, Debug)]
 pub struct Orders<'a> {
     // How many records there are after the changes that were handed out.

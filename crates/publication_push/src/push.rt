@@ -32,7 +32,7 @@ const MOST_BYTES: usize = 65_535;
 pub enum PushStep {
     /// More of the server's bytes are awaited.
     Waits,
-    /// These bytes are to be sent.
+    /// The bytes that are to be sent.
     Sends(Vec<u8>),
     /// The server took the publisher's greeting, and has this plan, this version and so many
     /// records. The push begins, if they are those of a version of the log.
@@ -113,8 +113,8 @@ impl<'a, K: Kernel> Push<'a, K> {
     ///
     /// `Client` with the client's fault; `Refused` with the code of a refusal; `WrongVersion` if
     /// another version is named as done than the one awaited; `NotDone` if the reply is another;
-    /// `Call` if the client did not make the next call. The push is of no more use then. What was
-    /// published before stays published, and what was edited or appended since stays in the
+    /// `Call` if the client did not make the next call. The push is of no further use then. What
+    /// was published before stays published, and what was edited or appended since stays in the
     /// server's draft.
     pub fn feed(&mut self, piece: &[u8]) -> Result<PushStep, PushFault>
         ensures { (left : List Ordered) → HasOrders self.old.orders left →
@@ -184,8 +184,8 @@ impl<'a, K: Kernel> Push<'a, K> {
         }
     }
 
-    /// The client, which may go on in the same session: by a sync and by asks for some records the
-    /// version that the server has can be compared with that of the log.
+    /// The client, which may go on in the same session: by a sync and by asks for some records, the
+    /// server's version can be compared with that of the log.
     pub fn into_client(self) -> ClientCore<K>
         ensures { result ≡ self.entry.client }
     {

@@ -86,7 +86,7 @@ edit_moved records c ds inside each =
     edit_later records c.place c.bytes ds inside each
     ∙ sym (edit_is (records_after records ds) c (omega (arith, all_grow records ds)))
 
--- a change in the stead of one of its place
+-- a change in place of the one at its place
 same_place : (records : List (List ℕ)) (c d : Placed) → c.place ≡ d.place → d.place ≤ length records →
     record_changed records c ≡ slice_set (record_changed records d) c.place c.bytes
 same_place records c d at few = elim (cases_lt d.place (length records)) [

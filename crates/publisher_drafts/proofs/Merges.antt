@@ -19,7 +19,7 @@ length_after records (c ∷ cs) = length_after (record_changed records c) cs ∙
 abbrev pub can_change : Plan → ℕ → Placed → Bool
 can_change plan count c = has_place plan count c.place && fits plan c.bytes
 
--- a place that there is
+-- a place that exists
 place_in : (plan : Plan) (count place : ℕ) → has_place plan count place ≡ true → place ≤ count
 place_in plan count place has = elim (or_cases (nat_lt place count) ((place == count) && is_layout (shape_at plan (count + 1))) has) [
   | inl lt ↦ omega (arith, ltb-true place count lt)

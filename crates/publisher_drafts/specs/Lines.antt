@@ -6,7 +6,7 @@ use Rattle.command_words.specs.Values.{bytes_in}
 use Rattle.publisher_drafts.specs.declared.judging.Target.{Target}
 use Rattle.publisher_drafts.specs.declared.judging.Target.TheVariants.{At, End}
 
--- whether a byte stands between the two words of a line: a space or a comma
+-- whether a byte separates the two words of a line: a space or a comma
 abbrev pub is_mark : ℕ → Bool
 is_mark b = (b == 32) || (b == 44)
 

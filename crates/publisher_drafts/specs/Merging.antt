@@ -10,7 +10,7 @@ use Rattle.log_replay.specs.Replays.{are_changes_of, count_after, records_after}
 abbrev pub changes_in : List (ℕ × Vec ℕ Global) → List Placed
 changes_in entries = map (λ e. record { place = e.0; bytes = e.1.items }) entries
 
--- changes by ascending place with one more, in the stead of that of its place
+-- changes by ascending place with one more, in place of the one at its place
 abbrev pub with_change : Placed → List Placed → List Placed
 with_change c [] = c ∷ []
 with_change c (d ∷ ds) = if nat_lt c.place d.place then c ∷ d ∷ ds else if c.place == d.place then c ∷ ds else d ∷ with_change c ds

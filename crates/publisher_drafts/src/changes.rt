@@ -12,7 +12,7 @@ use std::collections::BTreeMap;
 /// The bytes of each changed record by its place.
 pub type ChangeMap = BTreeMap<u32, Vec<u8>>;
 
-/// Puts a change to the others, in the stead of an earlier one of its place.
+/// Adds a change to the others, in place of an earlier one at its place.
 ///
 /// # Errors
 ///
@@ -29,7 +29,7 @@ pub fn put_change(changes: &mut ChangeMap, place: u32, bytes: Vec<u8>) -> Result
     }
 }
 
-/// Puts the changes of an entry to the others, one after another.
+/// Adds the changes of an entry to the others, one after another.
 ///
 /// # Errors
 ///

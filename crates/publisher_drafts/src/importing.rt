@@ -12,7 +12,7 @@ use std::collections::BTreeMap;
 /// Why a line was refused.
 #[derive(Clone, Copy, Debug, PartialEq, Eq)]
 pub enum LineFault {
-    /// The line is none of an import's.
+    /// The line is not one of an import.
     Form,
     /// Its change can't be made.
     Edit(EditFault),
@@ -21,7 +21,7 @@ pub enum LineFault {
 /// Why the changes of lines were not taken.
 #[derive(Clone, Copy, Debug, PartialEq, Eq)]
 pub enum ImportStop {
-    /// A line was refused: the first one that there is to refuse.
+    /// A line was refused: the first one to be refused.
     Line {
         /// Its number; the first line has the number 1.
         number: u64,
@@ -47,7 +47,7 @@ impl From<AllocError> for ImportStop {
 ///
 /// # Errors
 ///
-/// The first line that is none of an import's, or whose change can't be made; `Memory`.
+/// The first line that is not one of an import, or whose change can't be made; `Memory`.
 pub fn changes_of_lines(
     alloc: Global,
     plan: &Plan,

@@ -18,7 +18,7 @@ pub struct ImportLine {
     pub bytes: Vec<u8>,
 }
 
-/// What a first line may be that says what the others have.
+/// What a first line may be, if it says what the others have.
 const TITLE: &[u8] = b"index,hex";
 
 /// Whether a line, the number of which is counted from 0, says what the others have.

@@ -1,4 +1,4 @@
-//! What is behind a failure, as its second line says.
+//! What caused a failure, as its second line says.
 
 use crate::folder::{draft_name, records_name};
 use command_words::{Failed, Failure};

@@ -13,7 +13,7 @@ use publisher_drafts::{appended_line, changed_line};
 use safe_files::FileSystem;
 use std::alloc::{AllocError, Global};
 
-/// How often a folder is read whose draft is none of its version, since another process may have
+/// How often a folder is read whose draft is not of its version, since another process may have
 /// published meanwhile.
 const TRIES: u32 = 3;
 
@@ -24,7 +24,7 @@ const TRIES: u32 = 3;
 ///
 /// In this order: `File` if the folder has no snapshot, those of the snapshot, of its log (`File`,
 /// `BadLog`) and of the draft (`File`, `BadDraft`), and `Write` if the lines can't be printed.
-/// `Memory` if there was none.
+/// `Memory` if memory was refused.
 pub fn diff(rt: &HostRuntime, dir: &str) -> Result<(), Failed> {
     let (version, draft) = match read_folder(rt, dir) {
         Ok(both) => both,

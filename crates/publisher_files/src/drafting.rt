@@ -91,7 +91,7 @@ fn count_with(alloc: Global, some: &ChangeMap, others: ChangeMap) -> Result<usiz
 /// In this order: `File` if the folder has no snapshot, `Locked` if another process has it, those
 /// of the snapshot, of its log (`File`, `BadLog`) and of the draft (`File`, `BadDraft`), `BadIndex`
 /// if the draft has no such record, `BadLength` if no record has so many bytes, and those of the
-/// draft's new entry (`VersionsUsedUp`, `Write`). `Memory` if there was none.
+/// draft's new entry (`VersionsUsedUp`, `Write`). `Memory` if memory was refused.
 pub fn set(rt: &HostRuntime, dir: &str, index: u32, bytes: Vec<u8>) -> Result<Drafted, Failed> {
     match draft_one(rt, dir, Target::At(index), bytes) {
         Ok(drafted) => Ok(drafted),

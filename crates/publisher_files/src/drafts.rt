@@ -62,8 +62,8 @@ pub struct Draft {
 ///
 /// # Errors
 ///
-/// `File` if the file can't be read, or is none; `BadDraft` if it is damaged, or is no draft of the
-/// version nor of the one before that was published; `Memory`.
+/// `File` if the file can't be read, or is not a file; `BadDraft` if it is damaged, or is no draft
+/// of the version nor of the one before that was published; `Memory`.
 pub fn read_draft<R: FileSystem>(
     rt: &R,
     name: &str,

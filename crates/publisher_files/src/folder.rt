@@ -42,7 +42,7 @@ pub fn draft_name(alloc: Global, dir: &str) -> Result<String, AllocError>
     format!(in alloc; "{dir}/draft")
 }
 
-/// A folder's names, and the lock of its snapshot, which who changes anything in the folder has.
+/// A folder's names, and the lock of its snapshot, held by whoever changes anything in the folder.
 #[derive(Drop)]
 pub struct LockedFolder<'a, R: FileSystem = HostRuntime> {
     /// The name of the snapshot.
@@ -113,7 +113,7 @@ fn make_folder(rt: &HostRuntime, dir: &str) -> Result<(), Failure> {
     };
     match parent.sync_all() {
         Ok(()) => Ok(()),
-        // A file system on which a folder can't be synced: there is no more that could be done.
+        // A file system on which a folder can't be synced: nothing more can be done.
         Err(fault) if fault.kind() == ErrorKind::InvalidInput => Ok(()),
         Err(_) => Err(NO_FILE),
     }

@@ -9,7 +9,7 @@ use publisher_drafts::{ImportStop, LineFault, changes_of_lines};
 /// Why nothing was imported.
 #[derive(Drop)]
 pub enum ImportFault {
-    /// A line was refused: the first one that there is to refuse.
+    /// A line was refused: the first one to be refused.
     Line {
         /// Its number; the first line has the number 1.
         number: u64,
@@ -29,7 +29,7 @@ pub enum ImportFault {
 /// of the snapshot, of its log (`File`, `BadLog`) and of the draft (`File`, `BadDraft`), `Read` if
 /// standard input can't be read, the first line that is refused, with its number, `TooLong` if no
 /// entry has room for the changes, and those of the draft's new entry (`VersionsUsedUp`, `Write`).
-/// `Memory` if there was none. Nothing of the lines is in the draft then.
+/// `Memory` if memory was refused. Nothing of the lines is in the draft then.
 pub fn import(rt: &HostRuntime, dir: &str) -> Result<Drafted, ImportFault> {
     let open = match open_draft(rt, dir) {
         Ok(open) => open,

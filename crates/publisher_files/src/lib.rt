@@ -4,9 +4,9 @@
 //! `DIR/records.pir` is a snapshot, and the log beside it has the publications since, so a server
 //! can be started from a copy of both. `DIR/draft` is a file in the log's own format, whose header
 //! names the store by its form and its public seed and has the version that it is a draft of; zeros
-//! stand for a snapshot's digest, since a draft is of a version, whichever snapshot the folder has
-//! it from. Each command that changes the draft appends one entry to it. [`publish`] merges the
-//! entries into one publication, appends that to the log, and removes the draft.
+//! are in place of a snapshot's digest, since a draft is of a version, whichever snapshot the
+//! folder has it from. Each command that changes the draft appends one entry to it. [`publish`]
+//! merges the entries into one publication, appends that to the log, and removes the draft.
 //!
 //! If the process is killed between these two, the draft's version is the one before the current.
 //! Such a draft is done with if the current version has all that it changes: then the next command

@@ -29,7 +29,7 @@ const NOTHING_TO_PUBLISH: Failure = Failure::Fault("NothingToPublish");
 /// of the snapshot, of its log (`File`, `BadLog`) and of the draft (`File`, `BadDraft`),
 /// `NothingToPublish` if the draft changes nothing, `VersionsUsedUp` if there is no further
 /// version, `TooLong` if no publication has room for the changes, and `Write` if it can't be
-/// written or sent to the device. `Memory` if there was none.
+/// written or sent to the device. `Memory` if memory was refused.
 pub fn publish(rt: &HostRuntime, dir: &str) -> Result<FileVersion, Failed> {
     match publish_draft(rt, dir) {
         Ok(has) => Ok(has),
@@ -84,8 +84,8 @@ fn append_to_own<R: FileSystem>(
     append_to(rt.alloc(), &mut log, publication)
 }
 
-// Why nothing is published. A draft without changes, as a command leaves that was killed before it
-// wrote any, is removed.
+// Why nothing is published. A draft without changes, such as one left by a command that was killed
+// before it wrote any, is removed.
 fn nothing_to_publish<R: FileSystem>(
     rt: &R,
     folder: &LockedFolder<'_, R>,

@@ -40,7 +40,7 @@ pub fn show(rt: &HostRuntime, dir: &str) -> Result<(), Failed> {
 ///
 /// In this order: `File` if the folder has no snapshot, those of the snapshot and of its log
 /// (`File`, `BadLog`), `BadIndex` if there is no such record, and `Write` if it can't be printed.
-/// `Memory` if there was none.
+/// `Memory` if memory was refused.
 pub fn show_record(rt: &HostRuntime, dir: &str, index: u32) -> Result<(), Failed> {
     match record_text(rt, dir, index as usize) {
         Ok(text) => printed(rt, println!(rt; "{text}")),

@@ -161,8 +161,8 @@ pub fn settled_folder<R: FileSystem>(rt: &R, records: &str) -> Result<FolderVers
     Ok(version)
 }
 
-/// Sends the log of a version to the device, by who has the folder's lock: nothing is to be built
-/// on a publication that is not there.
+/// Sends the log of a version to the device, for a caller that has the folder's lock: nothing is to
+/// be built on a publication that is not there.
 ///
 /// # Errors
 ///

@@ -20,7 +20,7 @@ const GROUPS_TAKES: &str = "--groups takes a number from 0 to 65535";
 pub struct Beginning<'a> {
     /// The folder.
     pub dir: &'a str,
-    /// What its snapshot is made with. It names the folder in place of a file.
+    /// What its snapshot is made with. The line names the folder in place of a file.
     pub making: Making<'a>,
 }
 

@@ -48,7 +48,7 @@ from_place len changes k d each h =
 abbrev changed : ℕ → List ℕ → List ℕ → ChangedRecord
 changed index old new = record { index = index; old = old; new = new }
 
--- the change in entry k, which stands in front of some bytes
+-- the change in entry k, which is before some bytes
 change_there : (len k : ℕ) (bytes rest : List ℕ) (c : ChangedRecord) → IsChangeOf len c → drop (k * entry_len len) bytes ≡ entry_bytes c ++ rest →
     change_in len bytes k ≡ c
 change_there len k bytes rest c fits is =

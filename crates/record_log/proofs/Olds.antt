@@ -62,7 +62,7 @@ numbers_of-olds_in len numbers bytes =
     number_at olds k (old_record 0 []) (omega (arith, h, many))
     ∙ ap (λ (old : OldRecord). old.index) (at-olds_in len numbers bytes k (old_record 0 []) (omega (arith, h, many, long))))
 
--- one more number, and its bytes behind the others
+-- one more number, and its bytes after the others
 pub olds_in_more : (len : ℕ) (numbers bytes : List ℕ) (number : ℕ) (more : List ℕ) → length bytes ≡ length numbers * len → length more ≡ len →
     olds_in len (numbers ++ number ∷ []) (bytes ++ more) ≡ olds_in len numbers bytes ++ old_record number more ∷ []
 olds_in_more len numbers bytes number more whole long =

@@ -69,11 +69,11 @@ AreOldOfAll versions (oldest ∷ newer) =
 abbrev pub AreInside : ℕ → List (List OldRecord) → Type 0
 AreInside count lists = All (All (λ (old : OldRecord). old.index < count)) lists
 
--- the bytes of record i, in those of records of one length that stand one after another
+-- the bytes of record i, in the bytes of records of one length, one after another
 abbrev pub nth_bytes : ℕ → List ℕ → ℕ → List ℕ
 nth_bytes len bytes i = take len (drop (i * len) bytes)
 
--- so many records of one length, whose bytes stand one after another
+-- so many records of one length, whose bytes come one after another
 abbrev pub records_of_bytes : ℕ → ℕ → List ℕ → List (List ℕ)
 records_of_bytes len count bytes = list_of count (nth_bytes len bytes)
 

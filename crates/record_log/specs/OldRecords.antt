@@ -17,7 +17,7 @@ pub record OldBytes : Type 0 where
   pub record_len : ℕ
   pub records : List OldRecord
 
--- the old records whose numbers and bytes stand one after another
+-- the old records whose numbers and bytes come one after another
 abbrev pub olds_in : ℕ → List ℕ → List ℕ → List OldRecord
 olds_in len numbers bytes =
     list_of (length numbers) (λ k. record { index = slice_index numbers k; bytes = take len (drop (k * len) bytes) })
@@ -55,10 +55,10 @@ pub record AreOldOf (before after : List (List ℕ)) (olds : List OldRecord) : T
   pub each : All (λ (old : OldRecord). (old.index < length after) × (record_at before old.index ≡ old.bytes)) olds
   pub others : (i : ℕ) → All (λ (old : OldRecord). old.index ≢ i) olds → record_at after i ≡ record_at before i
 
--- a change as it stands in bytes: the record's number in four, the old bytes, and the new ones
+-- a change as bytes: the record's number in four, the old bytes, and the new ones
 abbrev pub entry_bytes : ChangedRecord → List ℕ
 entry_bytes c = little_bytes 4 c.index ++ (c.old ++ c.new)
 
--- changes as they stand in bytes, one after another
+-- changes as bytes, one after another
 abbrev pub entries_bytes : List ChangedRecord → List ℕ
 entries_bytes changes = flat_map entry_bytes changes

@@ -65,7 +65,7 @@ impl RecordLog {
     }
 
     /// Adds what the next publication changed; the oldest go, if they are too many or have too many
-    /// bytes together. It takes no memory.
+    /// bytes together. No memory is taken.
     pub fn push(&mut self, newest: OldRecords)
         requires { newest.record_len ≡ self.old.record_len }
         ensures { self.new ≡ record self.old {

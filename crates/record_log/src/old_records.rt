@@ -35,7 +35,7 @@ impl Model for OldRecords {
 }
 
 impl OldRecords {
-    /// Of records of so many bytes: none yet. It takes no memory.
+    /// Of records of so many bytes: none yet. No memory is taken.
     pub fn new(alloc: Global, record_len: usize) -> OldRecords
         ensures { result ≡ record { record_len = record_len; records = [] } }
     {

@@ -50,13 +50,13 @@ abbrev pub after_steps : Device → List Step → Device
 after_steps device [] = device
 after_steps device (step ∷ steps) = after_steps (after_step device step) steps
 
--- a crash may leave this of a file: the bytes that were synced, or any where none were
+-- a crash may leave this of a file: the bytes that were synced, or any if none were
 abbrev pub MayHold : Option (List ℕ) → List ℕ → Type 0
 MayHold None found = ⊤
 MayHold (Some bytes) found = found ≡ bytes
 
--- A crash may leave this of the new file. Where it was renamed with other bytes than were synced,
--- that is anything.
+-- A crash may leave this of the new file. If it was renamed with other bytes than were synced, that
+-- is anything.
 abbrev pub MayLeaveNew : Device → List ℕ → Type 0
 MayLeaveNew device found = device.synced ≡ device.renamed → MayHold device.synced found
 

@@ -21,7 +21,7 @@ pub data Step : Type 0 where
   -- the names in the folder went to the device
   SyncsFolder : Step
   SyncFolderFails : Step
-  -- the new file was removed, or is left where that failed
+  -- the new file was removed, or is left if that failed
   Removes : Step
 
 -- the step that a making was, by its answer
@@ -69,7 +69,7 @@ IsFinishFault SyncFolder = ⊤
 abbrev pub finishing : {T : Type 0} → Option (List ℕ) → Result T ReplaceFault → List Step
 finishing shown result = drop 1 (course shown result)
 
--- All steps by which a file that stands is sent to the device, in their order.
+-- All steps by which an existing file is sent to the device, in their order.
 abbrev pub settling : {T : Type 0} → Option (List ℕ) → Result T SettleFault → List Step
 settling shown (Ok _) = Syncs shown ∷ SyncsFolder ∷ []
 settling shown (Err settle.Sync) = SyncFails ∷ []

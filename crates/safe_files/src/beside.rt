@@ -56,7 +56,7 @@ fn is_after_dash(text: &str) -> bool {
     }
 }
 
-// Whether a file stands at a name, and no link to one.
+// Whether there is a file at a name, and not a link to one.
 fn is_own_file<R: FileSystem>(rt: &R, name: &str) -> bool {
     match fs::symlink_metadata(rt, name) {
         Ok(found) => found.is_file(),

@@ -13,7 +13,7 @@ pub enum ContentFault {
     /// A write failed, or took no byte.
     #[error("a write failed")]
     Write,
-    /// There is no memory to make the bytes.
+    /// Memory to make the bytes was refused.
     #[error("out of memory")]
     Memory,
 }
@@ -28,8 +28,8 @@ impl From<AllocError> for ContentFault {
     }
 }
 
-/// What a file is to hold. It is written from its start to its end, and need not stand in memory as
-/// a whole.
+/// What a file is to hold, written from its start to its end. The whole need not be in memory at
+/// once.
 pub trait Content {
     /// Its bytes.
     ghost bytes: { Self → List ℕ };
@@ -38,8 +38,8 @@ pub trait Content {
     ///
     /// # Errors
     ///
-    /// `Write` where a write failed, `Memory` where memory was refused. How many bytes went out is
-    /// not said.
+    /// `Write` if a write failed, `Memory` if memory was refused. How many bytes went out is not
+    /// said.
     fn write_to<W: Write>(&self, alloc: Global, writer: &mut W) -> Result<(), ContentFault>
         ensures whole { OnOk result
             (Appends (W.contents writer.old) (W.contents writer.new) (bytes self.now)) };

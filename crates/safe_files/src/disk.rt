@@ -45,7 +45,7 @@ pub trait Disk {
     fn sync_folder(&mut self) -> Result<(), DiskFailed>
         ensures did { does self.old (sync_folder_step result) self.new };
 
-    /// Removes the file that was made, and no other. Where that fails the file is left.
+    /// Removes the file that was made, and no other. If that fails, the file is left.
     fn remove(&mut self)
         ensures did { does self.old Removes self.new };
 }

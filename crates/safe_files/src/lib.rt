@@ -8,7 +8,7 @@
 //! renaming is done at one moment, is the system's promise and nothing that is proved here.
 //!
 //! [`Place::lock`] keeps two processes from replacing one file: its lock is on a file `NAME.lock`,
-//! which is never renamed nor removed, since a lock belongs to a file and not to its name.
+//! which is never renamed or removed, since a lock belongs to a file and not to its name.
 //!
 //! Its tests are in tests/long/safe_files and tests/log.
 #![tactic(auto)]

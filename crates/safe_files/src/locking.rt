@@ -37,8 +37,8 @@ impl From<AllocError> for LockFault {
     }
 }
 
-/// A lock that this process has. It is given back when the value is dropped, and by the system when
-/// the process ends, in whatever way.
+/// A lock that this process has, given back when the value is dropped, and by the system when the
+/// process ends, in whatever way.
 #[derive(Drop)]
 pub struct FileLock<R: FileSystem = HostRuntime> {
     file: R::File,
@@ -51,13 +51,13 @@ impl<R: FileSystem> FileLock<R> {
     }
 }
 
-/// Takes the lock on a file of this name, which is made where there is none, and is never to be
-/// renamed or removed. It is not waited for.
+/// Takes the lock on a file of this name, without waiting for it. The file is made if there is
+/// none, and is never to be renamed or removed.
 ///
 /// # Errors
 ///
-/// `Held` where another process has it; `File` where the file can't be opened or made, or is a link
-/// or no file.
+/// `Held` if another process has it; `File` if the file can't be opened or made, or is a link or no
+/// file.
 pub fn lock<R: FileSystem>(rt: &R, name: &str) -> Result<FileLock<R>, LockFault> {
     let Ok(file) = lock_file(rt, name) else {
         return Err(LockFault::File);
@@ -72,11 +72,11 @@ pub fn lock<R: FileSystem>(rt: &R, name: &str) -> Result<FileLock<R>, LockFault>
     }
 }
 
-// Opens the lock's file, or makes it. What is in it is never read nor written.
+// Opens the lock's file, or makes it. What is in it is never read or written.
 fn lock_file<R: FileSystem>(rt: &R, name: &str) -> io::Result<R::File> {
     match fs::symlink_metadata(rt, name) {
         Ok(found) if found.is_file() => File::open(rt, name),
-        // To open a pipe is to wait for who writes to it.
+        // Opening a pipe waits for its writer.
         Ok(_) => Err(ErrorKind::InvalidInput.into()),
         Err(fault) if fault.kind() == ErrorKind::NotFound => OpenOptions::new()
             .read(true)

@@ -16,7 +16,7 @@ use std::{fs, io, mem};
 /// How many names with random digits are tried for the file beside, after the first name.
 const RANDOM_NAMES: u32 = 7;
 
-/// The mode of a file where there was none: its owner reads and writes it, and nobody else.
+/// The mode of a file if there was none: its owner reads and writes it, and nobody else.
 const NEW_MODE: u32 = 0o600;
 
 /// The bits of a mode that say who may read, write and run a file.
@@ -24,19 +24,18 @@ const MODE_BITS: u32 = 0o7777;
 
 /// A file of the system that is to be replaced, or made.
 ///
-/// The new file has `.new` after its name, or, where something stands there, random digits too:
-/// what stands beside is never opened, followed nor removed. It gets the old one's mode, and its
-/// owner where the system permits that; 0600 where there was none. A file that a killed process
-/// left beside stays there, unless [`Place::lock`] removes it.
+/// The new file has `.new` after its name, or, if something has that name, random digits too: what
+/// is there already is never opened, followed or removed. The new file gets the old one's mode, and
+/// its owner if the system permits that; 0600 if there was none. A file that a killed process left
+/// beside stays there, unless [`Place::lock`] removes it.
 #[derive(Drop)]
 pub struct Place<'a, R: FileSystem = HostRuntime> {
     rt: &'a R,
-    // The name of the file itself, where the name given leads to it by links.
+    // The name of the file itself, if the name given leads to it by links.
     name: String,
     // The name of the file beside that was made last, or that is tried first.
     beside: String,
-    // Names to try where something stands there. The memory for them is had before anything is
-    // done.
+    // Names to try if something is there. Their memory is taken before anything is done.
     others: Vec<String>,
     // The folder, open since the file was made, so that it can surely be sent to the device later.
     folder: Option<R::File>,
@@ -50,7 +49,7 @@ impl<'a, R: FileSystem> Place<'a, R> {
     ///
     /// # Errors
     ///
-    /// `AllocError` where there is no memory for the names.
+    /// `AllocError` if memory for the names was refused.
     pub fn of(rt: &'a R, name: &str) -> Result<Place<'a, R>, AllocError> {
         let name = real_name(rt, name)?;
         let beside = format!(in rt.alloc(); "{name}.new")?;
@@ -65,7 +64,7 @@ impl<'a, R: FileSystem> Place<'a, R> {
         })
     }
 
-    /// Whether something stands there that is no file, as a terminal or a pipe: it can't be
+    /// Whether something is there that is no file, such as a terminal or a pipe: it can't be
     /// replaced, only written to.
     pub fn is_no_file(&self) -> bool {
         match fs::metadata(self.rt, self.name.as_str()) {
@@ -74,12 +73,12 @@ impl<'a, R: FileSystem> Place<'a, R> {
         }
     }
 
-    /// The name of the file itself, where the name given led to it by links.
+    /// The name of the file itself, if the name given led to it by links.
     pub fn name(&self) -> &str {
         self.name.as_str()
     }
 
-    /// Whether anything stands at the name, also a link that leads nowhere.
+    /// Whether anything is at the name, even a link that leads nowhere.
     pub fn is_taken(&self) -> bool {
         match fs::symlink_metadata(self.rt, self.name.as_str()) {
             Ok(_) => true,
@@ -87,10 +86,10 @@ impl<'a, R: FileSystem> Place<'a, R> {
         }
     }
 
-    /// Takes the lock of the file, on `NAME.lock` beside it, whether the file stands or not. Then
-    /// files that killed processes left beside it are removed, `NAME.new-` and 16 hex digits, and
-    /// each file that is made beside it from then on has such a name. What a replacement needs is
-    /// kept open.
+    /// Takes the lock of the file, on `NAME.lock` beside it, whether there is such a file or not.
+    /// Then files that killed processes left beside it are removed, `NAME.new-` and 16 hex digits,
+    /// and each file that is made beside it from then on has such a name. What a replacement needs
+    /// is kept open.
     ///
     /// # Errors
     ///
@@ -121,7 +120,7 @@ impl<'a, R: FileSystem> Place<'a, R> {
         open_file(self.rt, self.name.as_str())
     }
 
-    // Keeps a descriptor, where there is one.
+    // Keeps a descriptor, if there is one.
     fn keep_spare(&mut self) {
         if let Some(folder) = &self.folder {
             self.spare = folder.try_clone().ok();
@@ -200,15 +199,15 @@ impl<R: FileSystem> Disk for Place<'_, R> {
         };
         match folder.sync_all() {
             Ok(()) => Ok(()),
-            // A file system on which a folder can't be synced: there is no more that could be done.
+            // A file system on which a folder can't be synced: nothing more can be done.
             Err(fault) if fault.kind() == ErrorKind::InvalidInput => Ok(()),
             Err(_) => Err(DiskFailed),
         }
     }
 
     fn remove(&mut self) {
-        // Nothing better can be done where that fails: the file stays, and the next one gets
-        // another name.
+        // Nothing better can be done if that fails: the file stays, and the next one gets another
+        // name.
         let _ = fs::remove_file(self.rt, self.beside.as_str());
     }
 }
@@ -217,7 +216,7 @@ impl<R: FileSystem> Disk for Place<'_, R> {
 ///
 /// # Errors
 ///
-/// As [`replace`], and `Memory` where there was none for the names.
+/// As [`replace`], and `Memory` if memory for the names was refused.
 pub fn replace_file<R: FileSystem, C: Content>(
     rt: &R,
     name: &str,
@@ -229,7 +228,7 @@ pub fn replace_file<R: FileSystem, C: Content>(
     replace(rt.alloc(), &mut place, content)
 }
 
-/// The name of the file that a name leads to by links, where there is a file and its name is text;
+/// The name of the file that a name leads to by links, if there is a file and its name is text;
 /// else the name itself.
 pub(crate) fn real_name<R: FileSystem>(rt: &R, name: &str) -> Result<String, AllocError> {
     match fs::canonicalize(rt, name) {
@@ -243,7 +242,7 @@ pub(crate) fn real_name<R: FileSystem>(rt: &R, name: &str) -> Result<String, All
 ///
 /// # Errors
 ///
-/// Where it can't be opened, or is no file, as a folder. A pipe is not waited for.
+/// If it can't be opened, or is not a file (but a folder, for example). A pipe is not waited for.
 pub fn open_file<R: FileSystem>(rt: &R, name: &str) -> io::Result<SteadyFile<R::File>> {
     if !fs::metadata(rt, name)?.is_file() {
         return Err(ErrorKind::InvalidInput.into());
@@ -255,7 +254,7 @@ pub fn open_file<R: FileSystem>(rt: &R, name: &str) -> io::Result<SteadyFile<R::
     Ok(SteadyFile::new(file))
 }
 
-// Names beside a file that nobody can guess; none where there is no randomness.
+// Names beside a file that nobody can guess; none if there is no randomness.
 fn random_names<R: FileSystem>(rt: &R, name: &str) -> Result<Vec<String>, AllocError> {
     let mut names = Vec::new(rt.alloc());
     for _ in 0..RANDOM_NAMES {
@@ -269,7 +268,7 @@ fn random_names<R: FileSystem>(rt: &R, name: &str) -> Result<Vec<String>, AllocE
     Ok(names)
 }
 
-// Makes a file where nothing stands.
+// Makes a file if nothing has the name.
 fn new_file<R: FileSystem>(rt: &R, name: &str) -> io::Result<R::File> {
     OpenOptions::new()
         .write(true)

@@ -69,7 +69,7 @@ pub fn replace<D: Disk, C: Content>(
     finish(disk, file)
 }
 
-/// The second half of a replacement, for who wrote the new file's bytes otherwise than from a
+/// The second half of a replacement, for a caller that wrote the new file's bytes other than from a
 /// [`Content`]: sends it to the device, gives it the old one's name, and sends the folder to the
 /// device.
 ///
@@ -96,7 +96,7 @@ pub fn finish<D: Disk>(disk: &mut D, file: D::File) -> Result<(), ReplaceFault>
     }
 }
 
-/// Why a file that stands was not sent to the device.
+/// Why an existing file was not sent to the device.
 #[derive(Clone, Copy, Debug, PartialEq, Eq, Error)]
 pub enum SettleFault {
     /// Its bytes could not be sent.
@@ -107,7 +107,7 @@ pub enum SettleFault {
     SyncFolder,
 }
 
-/// Sends a file that stands to the device, and then its name: whoever replaced it may have been
+/// Sends an existing file to the device, and then its name: whoever replaced it may have been
 /// killed before.
 ///
 /// # Errors

@@ -24,7 +24,7 @@ impl<F: OpenFile> SteadyFile<F> {
         self.file.metadata()
     }
 
-    /// Sends all that was written to the device. What is no file, as a pipe or a terminal, has
+    /// Sends all that was written to the device. What is no file, such as a pipe or a terminal, has
     /// none: there is nothing to do.
     pub fn sync(&self) -> io::Result<()> {
         if self.file.metadata()?.is_file() {

@@ -12,10 +12,10 @@ use std::rt::Files;
 const OTHERS: u32 = 0o077;
 
 /// A file system: std's [`Files`], and what is needed of open files beside that. [`HostRuntime`]
-/// has that of the system; one that stands in for it can lose, cut and refuse what it likes, and is
-/// what a simulation runs the same code on.
+/// has that of the system; one in its place can lose, cut and refuse what it likes, and is what a
+/// simulation runs the same code on.
 pub trait FileSystem: Files + AllocGlobal + RandomSource + Clone + Copy + Drop {
-    /// Reads some bytes at a place, and returns how many came. Where the file is read next stays.
+    /// Reads some bytes at a place, and returns how many came. The place of the next read stays.
     fn read_at(&self, file: &Self::File, buffer: &mut [u8], at: u64) -> io::Result<usize>
         ensures bound { ReadsAtMost result buffer.new };
 
@@ -25,11 +25,11 @@ pub trait FileSystem: Files + AllocGlobal + RandomSource + Clone + Copy + Drop {
     /// Writes all of these bytes at a place.
     fn write_all_at(&self, file: &Self::File, bytes: &[u8], at: u64) -> io::Result<()>;
 
-    /// Takes the lock that belongs to an open file, unless another process has it. It is given back
-    /// when the file is closed.
+    /// Takes the lock that belongs to an open file, unless another process has it. The lock is
+    /// given back when the file is closed.
     fn try_lock(&self, file: &Self::File) -> Result<(), TryLockError>;
 
-    /// Gives an open file the owner and the group of another, where the system permits that.
+    /// Gives an open file the owner and the group of another, if the system permits that.
     fn keep_owner(&self, file: &Self::File, old: &Metadata);
 
     /// Whether the owner alone may use a file or a folder, by what the system knows of it.

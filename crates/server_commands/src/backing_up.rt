@@ -8,14 +8,14 @@ use session_core::{Header, Snapshot, snapshot_digest};
 /// The failure of a file that does not have what was written to it.
 const NOT_AS_WRITTEN: Failure = Failure::Fault("Write");
 
-/// Writes the last version that a file and its log have as a snapshot of its own, also while a
+/// Writes the last version that a file and its log have as a snapshot of its own, even while a
 /// server serves them, reads it again, and prints how many records it has and its version.
 ///
 /// # Errors
 ///
 /// In this order: those of the new file's lock (`File`, `Locked`), those of the file and its log
 /// (`File`, the refusals of the snapshot, `BadLog`), those of the new file (`File`, `Write`), and
-/// `Write` if it can't be read again as it was written. `Memory` if there was none.
+/// `Write` if it can't be read again as it was written. `Memory` if memory was refused.
 pub fn back_up(rt: &HostRuntime, backing_up: &BackingUp<'_>) -> Result<(), Failed> {
     let mut out = match OwnFile::to_write(rt, backing_up.out) {
         Ok(out) => out,

@@ -15,17 +15,17 @@ use std::alloc::Global;
 use std::io::Read;
 
 /// Makes a snapshot file of version 1 of the records on standard input, which are to be as many as
-/// the header says, and returns how many there are. They pass through a few buffers, and stand
-/// nowhere as a whole.
+/// the header says, and returns how many there are. The records pass through a few buffers, and
+/// nothing holds them all at once.
 ///
 /// # Errors
 ///
 /// The file is locked, and the new one beside it begun, before the records are read, and yet the
-/// faults of the input come first. In this order: `BadLayout` if no store has the header's
-/// layout, after `Read` and `BadRecords` of an input of more bytes than the largest store has;
-/// `Read`, `BadRecords` if there are fewer or more records, or a line is none that fits;
-/// `Locked`, `Exists` if the file is to be new and is not, `File`, `Write`. `Memory` if there
-/// was none. Whatever stood at the name stays then.
+/// faults of the input come first. In this order: `BadLayout` if no store has the header's layout,
+/// after `Read` and `BadRecords` of an input of more bytes than the largest store has; `Read`,
+/// `BadRecords` if there are fewer or more records, or a line doesn't fit; `Locked`, `Exists` if
+/// the file is to be new and is not, `File`, `Write`. `Memory` if memory was refused. Whatever had
+/// the name stays then.
 pub fn make_counted(rt: &HostRuntime, making: &Making<'_>, header: &Header) -> Result<u32, Failed> {
     if !header.is_accepted() {
         return Err(no_such_store(rt, making, header));

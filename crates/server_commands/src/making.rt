@@ -27,7 +27,7 @@ const MAX_WIDE_RECORD_BYTES: usize = 1_207_959_552;
 /// How many words a secret of a new store has.
 const DIMENSION: u16 = 1024;
 
-/// The failure of a file that is to be new, if something stands at its name.
+/// The failure of a file that is to be new, if something has its name.
 pub const EXISTS: Failure = Failure::Fault("Exists");
 
 /// The failure of record bytes that no store takes.
@@ -51,12 +51,11 @@ pub struct Keys {
 /// # Errors
 ///
 /// With `--count` the records are written as they are read, as [`make_counted`] says. Without it,
-/// in this order: those of the files of the seed and of the key (`File`, `Value`), `Exists` if
-/// the file is to be new and something stands at its name, those of the input (`Read`, `BadRecords`
-/// if there are more bytes than the largest store has), `BadLayout` if no store has this
-/// layout, `BadRecords` if these are not whole records or a line is none that fits, those of the
-/// file (`Locked` if another process has it, `Exists` once more, `File`, `Write`). `Memory`
-/// if there was none.
+/// in this order: those of the files of the seed and of the key (`File`, `Value`), `Exists` if the
+/// file is to be new and something has its name, those of the input (`Read`, `BadRecords` if there
+/// are more bytes than the largest store has), `BadLayout` if no store has this layout,
+/// `BadRecords` if these are not whole records or a line doesn't fit, those of the file (`Locked`
+/// if another process has it, `Exists` once more, `File`, `Write`). `Memory` if memory was refused.
 pub fn make(rt: &HostRuntime, making: &Making<'_>) -> Result<u32, Failed> {
     let keys = Keys {
         seed: making
@@ -186,12 +185,12 @@ fn fill_slots(alloc: Global, layout: &Layout, slots: &mut [u8], text: &str) -> R
     Ok(())
 }
 
-/// The record in a line, the number of which is counted from 0. It fits into a slot of so many
-/// bytes.
+/// The record in a line, the number of which is counted from 0. The record fits into a slot of so
+/// many bytes.
 ///
 /// # Errors
 ///
-/// `BadRecords` if the line is none that fits, `Memory`.
+/// `BadRecords` if the line doesn't fit, `Memory`.
 pub fn record_of_line(
     alloc: Global,
     line: usize,

@@ -15,7 +15,7 @@ use version_store::laws::{migrated_records_stay, widened_records_stay};
 ///
 /// # Errors
 ///
-/// In this order: `NotFormOne`, `TooWide`; `Memory` if there was none.
+/// In this order: `NotFormOne`, `TooWide`; `Memory` if memory was refused.
 pub fn moved(alloc: Global, snapshot: &Snapshot) -> Result<Snapshot, Failure>
     requires { IsSound (header_of snapshot.now) snapshot.now.records.items }
     ensures { IfOk result (HasRecordsOf snapshot.now) }
@@ -31,7 +31,7 @@ pub fn moved(alloc: Global, snapshot: &Snapshot) -> Result<Snapshot, Failure>
 ///
 /// # Errors
 ///
-/// In this order: `NotOrdinary`, `BadWidth`; `Memory` if there was none.
+/// In this order: `NotOrdinary`, `BadWidth`; `Memory` if memory was refused.
 pub fn widened(alloc: Global, snapshot: &Snapshot, seed: [u8; 32]) -> Result<Snapshot, Failure>
     requires { IsSound (header_of snapshot.now) snapshot.now.records.items }
     ensures { IfOk result (IsWideOf snapshot.now seed) }

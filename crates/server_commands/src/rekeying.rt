@@ -14,9 +14,9 @@ use sha2::{Digest, Sha256};
 ///
 /// # Errors
 ///
-/// In this order: those of the key's file (`File`, `Value`), `File` if there is no file,
-/// `Locked` if another process has it, those of its snapshot and its log (`BadLog`), and those
-/// of the new file (`File`, `Write`). `Memory` if there was none.
+/// In this order: those of the key's file (`File`, `Value`), `File` if there is no file, `Locked`
+/// if another process has it, those of its snapshot and its log (`BadLog`), and those of the new
+/// file (`File`, `Write`). `Memory` if memory was refused.
 pub fn rekey(rt: &HostRuntime, rekeying: &Rekeying<'_>) -> Result<(), Failed> {
     let key = match rekeying.key.key(rt, KEY_TAKES) {
         Ok(key) => key,
@@ -31,7 +31,7 @@ pub fn rekey(rt: &HostRuntime, rekeying: &Rekeying<'_>) -> Result<(), Failed> {
     printed(rt, println!(rt; "rekeyed {count} {version}"))
 }
 
-// Replaces a snapshot file by the same with another publisher's key, and answers its header.
+// Replaces a snapshot file by the same with another publisher's key, and returns its header.
 fn rekey_file(rt: &HostRuntime, name: &str, key: &[u8; 32]) -> Result<Header, Failure> {
     let mut file = OwnFile::to_read(rt, name)?;
     let snapshot = whole_of(rt, file.name())?.snapshot;

@@ -32,12 +32,11 @@ const DRAIN_WAIT: u64 = 100;
 ///
 /// # Errors
 ///
-/// In this order: `File` if there is no file, `Locked` if another process has it, those of
-/// the snapshot, `Write` if the file can't be sent to the device, those of its log (`File`,
-/// `BadLog`), `Connect` if the port can't be listened on, and after a connection that published
-/// `File` if the file can't be made anew and `Write` if it can't be written. `Memory` if
-/// there was none. A connection that ends with a fault is reported on standard error, and ends
-/// nothing else.
+/// In this order: `File` if there is no file, `Locked` if another process has it, those of the
+/// snapshot, `Write` if the file can't be sent to the device, those of its log (`File`, `BadLog`),
+/// `Connect` if the port can't be listened on, and after a connection that published `File` if the
+/// file can't be made anew and `Write` if it can't be written. `Memory` if memory was refused. A
+/// connection that ends with a fault is reported on standard error, and ends nothing else.
 pub fn serve_file(rt: &HostRuntime, serving: &Serving<'_>) -> Result<(), Failed> {
     let mut file = match OwnFile::to_read(rt, serving.file) {
         Ok(file) => file,

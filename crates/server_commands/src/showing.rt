@@ -16,7 +16,7 @@ const WORD_BYTES: u128 = 4;
 ///
 /// # Errors
 ///
-/// In this order: those of the file and the snapshot, `Write`. `Memory` if there was none.
+/// In this order: those of the file and the snapshot, `Write`. `Memory` if memory was refused.
 pub fn show(rt: &HostRuntime, name: &str) -> Result<(), Failed> {
     let Whole { snapshot, log } = match whole_of(rt, name) {
         Ok(whole) => whole,

@@ -1,4 +1,4 @@
-//! What is behind a failure, as its second line says.
+//! What caused a failure, as its second line says.
 
 use command_words::{Failed, Failure, file_failed};
 use std::net::{SocketAddr, TcpListener};
@@ -11,8 +11,8 @@ pub fn failed_at(rt: &HostRuntime, name: &str, failure: Failure) -> Failed {
     }
 }
 
-/// How a server that can't listen at an address failed: with the system's error, if it can't be
-/// listened on now, either.
+/// How a server failed that can't listen at an address: with the system's error, if listening fails
+/// now, too.
 pub fn not_listening(rt: &HostRuntime, address: SocketAddr) -> Failed {
     let alloc = rt.alloc();
     let cause = match TcpListener::bind(rt, address) {

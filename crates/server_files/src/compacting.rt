@@ -19,9 +19,9 @@ use std::fs;
 ///
 /// # Errors
 ///
-/// In this order: `File` if there is no file, `Locked` if another process has it, those of
-/// the snapshot, `Write` if the file can't be sent to the device, those of the log (`File`,
-/// `BadLog`), and those of the new files (`File`, `Write`). `Memory` if there was none.
+/// In this order: `File` if there is no file, `Locked` if another process has it, those of the
+/// snapshot, `Write` if the file can't be sent to the device, those of the log (`File`, `BadLog`),
+/// and those of the new files (`File`, `Write`). `Memory` if memory was refused.
 pub fn compact_file(rt: &HostRuntime, name: &str) -> Result<(), Failed> {
     match compact_pair(rt, name) {
         Ok(Compacted { version, after }) => printed(
@@ -130,7 +130,7 @@ fn read_own<R: FileSystem>(rt: &R, own: &OwnLog) -> Result<Option<ReadLog>, Fail
 }
 
 // Writes the log of the last 16 publications under the name that belongs to the snapshot before
-// them, then that snapshot in the place of the file, and removes the log of before. At each moment
+// them, then that snapshot in the place of the file, and removes the earlier log. At each moment
 // the file and its log have what they had.
 fn shortened<R: FileSystem>(
     rt: &R,

@@ -3,7 +3,8 @@
 //! A [`FileVersion`] is made here alone: when a snapshot was read to its end and its file was sent
 //! to the device, when the publications of its log were made again, when one more was appended to
 //! that log, or taken back, when a file was replaced by a snapshot, and when one was written to
-//! what is no file. So who has one did that, and a version can't be counted as saved without it.
+//! what is no file. So whoever has one did that, and a version can't be counted as saved without
+//! it.
 
 ghost use Rattle.std.specs.Prelude.{◌≡◌, ◌+◌, ℕ, List, [], ◌∷◌, take, IfOk, OnOk, OnErr};
 ghost use Rattle.std.specs.List.{FoldsTo};
@@ -168,7 +169,7 @@ pub fn take_up_version(
 ///
 /// # Errors
 ///
-/// Those of [`replay_all`]: the store is of no more use then.
+/// Those of [`replay_all`]: the store is of no further use then.
 pub fn replay_version(
     store: &mut Store<Lanes>,
     has: FileVersion,

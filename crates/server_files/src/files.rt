@@ -117,8 +117,8 @@ pub const NO_FILE: Failure = Failure::Fault("File");
 /// The failure of a file that can't be written.
 pub const NOT_WRITTEN: Failure = Failure::Fault("Write");
 
-/// A file that no other process serves or replaces, until the value is dropped. What is no file, as
-/// a terminal, has no lock.
+/// A file that no other process serves or replaces, until the value is dropped. What is no file,
+/// such as a terminal, has no lock.
 ///
 /// If the name given is a link, what it leads to is found once: that is what is locked, read and
 /// replaced.
@@ -151,11 +151,11 @@ impl<'a, R: FileSystem> OwnFile<'a, R> {
         }
     }
 
-    /// A file that stands, and is to be read and replaced.
+    /// An existing file, which is to be read and replaced.
     ///
     /// # Errors
     ///
-    /// `File` if nothing stands of this name, or no file; then as [`OwnFile::to_write`].
+    /// `File` if nothing has this name, or what has it is no file; then as [`OwnFile::to_write`].
     pub fn to_read(rt: &'a R, name: &str) -> Result<OwnFile<'a, R>, Failure> {
         match fs::metadata(rt, name) {
             Ok(found) if found.is_file() => OwnFile::to_write(rt, name),
@@ -163,12 +163,13 @@ impl<'a, R: FileSystem> OwnFile<'a, R> {
         }
     }
 
-    /// Whether it is a file, or will be one: what is none, as a terminal, is written to as it is.
+    /// Whether it is a file, or will be one: what is none, such as a terminal, is written to as it
+    /// is.
     pub fn is_file(&self) -> bool {
         self.lock.is_some()
     }
 
-    /// Whether anything stands at the name.
+    /// Whether anything has the name.
     pub fn is_taken(&self) -> bool {
         self.place.is_taken()
     }
@@ -309,7 +310,7 @@ pub fn snapshot_in(rt: &HostRuntime, name: &str) -> Result<(Snapshot, [u8; 32]),
     }
 }
 
-/// Writes a snapshot that no log follows in the place of a file, or makes it, and answers the
+/// Writes a snapshot that no log follows in the place of a file, or makes it, and returns the
 /// version that it has then. A log that belongs to this very snapshot is removed before, since it
 /// would be taken for its own, and those of other snapshots after.
 ///
@@ -403,7 +404,7 @@ pub fn digest_of<C: Content>(alloc: Global, content: &C) -> Result<[u8; 32], Fai
 }
 
 /// Writes a snapshot to a file that is made, or replaces it, and returns the version that it has
-/// then: the file is whole at any moment, the old one or the new one. What is no file, as a
+/// then: the file is whole at any moment, the old one or the new one. What is no file, such as a
 /// terminal, is written to as it is.
 ///
 /// # Errors

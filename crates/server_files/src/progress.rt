@@ -39,7 +39,7 @@ impl<'a> Pace<'a> {
         }
     }
 
-    /// Whether a second has passed since the last line. From then on that is this one.
+    /// Whether a second has passed since the last line. If so, the next second begins now.
     pub fn is_due(&mut self) -> bool {
         let Ok(now) = Instant::now(self.rt) else {
             return false;

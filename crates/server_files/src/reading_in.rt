@@ -25,7 +25,7 @@ pub enum InputFault {
     Many,
     /// A read failed.
     Read,
-    /// There is no memory to read it.
+    /// Memory to read it was refused.
     Memory,
 }
 

@@ -40,8 +40,8 @@ impl<D: Disk + Drop> LogSaver<D> {
     ///
     /// # Errors
     ///
-    /// If it could not be appended: nothing of it is left, or, if that can't be had either, a part
-    /// may be.
+    /// If it could not be appended: nothing of it is left, or, if that can't be achieved either, a
+    /// part may be.
     pub fn append(&mut self, alloc: Global, store: &Store<Lanes>) -> Result<(), AppendFailed>
         requires saved { saved_version self.old ≡ store.now.version }
         requires draft { store.now.marked ≡ true }

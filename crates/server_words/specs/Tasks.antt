@@ -42,8 +42,8 @@ abbrev pub IsNumberIf : Found → List ℕ → Option ℕ → Type 0
 IsNumberIf found name n =
     MatchOption (first_value found name) (n ≡ None) (λ text. IsNumeral 10 text × (n ≡ Some (digits_value 10 text)))
 
--- a new store, as the options of `make` ask for it, but whether it must be new and whether is said
--- how much was read
+-- a new store, as the options of `make` ask for it, but whether it must be new and whether it is
+-- said how much was read
 abbrev pub ReadsMake : Found → Making → Type 0
 ReadsMake found making =
     (first_value found (codes "out") ≡ Some making.out.now) × IsNumberOr 1 found (codes "form") making.form
@@ -107,7 +107,7 @@ ReadsMostPerPeer found most =
     (λ text. IsNumeral 10 text × (most ≡ Some (digits_value 10 text)))
 
 -- connections side by side, as those of `run` do, but the addresses, whether it is quiet, and
--- whether is said how far the hints are
+-- whether it is said how far the hints are
 abbrev pub ReadsRun : Found → RunOptions → Type 0
 ReadsRun found running =
     (first_value found (codes "file") ≡ Some running.file.now) × ReadsMost found running.most

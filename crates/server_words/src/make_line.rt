@@ -34,11 +34,11 @@ pub struct Making<'a> {
     pub width: u8,
     /// How many bytes a record has, or its slot.
     pub record_len: u16,
-    /// How many records stand in a column of the digit matrix.
+    /// How many records a column of the digit matrix has.
     pub groups: u16,
     /// How many records there are, if that is known before they are read: 1 to 4294967295.
     pub count: Option<u32>,
-    /// Whether is said how many bytes have been read.
+    /// Whether it is said how many bytes have been read.
     pub progress: bool,
     /// The key of the public matrix.
     pub seed: Secret<'a>,

@@ -37,8 +37,7 @@ const LOG_TAKES: &str = "--log takes text or json";
 const GRACE_TAKES: &str =
     "--grace takes a number of seconds from 1 to 3600, and is for --until-eof alone";
 
-/// How many seconds what was begun has after the end of standard input where `--grace` is not
-/// given.
+/// How many seconds what was begun has after the end of standard input if `--grace` is not given.
 const GRACE: u64 = 10;
 
 /// How many MiB the log may have when a server starts, before it is made shorter, if `--log-limit`
@@ -48,11 +47,11 @@ const LOG_LIMIT: u64 = 64;
 /// How many connections there may be at once if neither `--max-connections` nor `--most` is given.
 const MOST: u64 = 256;
 
-/// After how many seconds without progress a connection is closed where `--idle` is not given.
+/// After how many seconds without progress a connection is closed if `--idle` is not given.
 const IDLE: u64 = 60;
 
 /// How many MiB the unfinished frames of all connections, and the replies owed to them, may have
-/// together where `--memory` is not given.
+/// together if `--memory` is not given.
 const MEMORY: u64 = 256;
 
 /// What `run` is to serve.

@@ -23,8 +23,8 @@ has_line q = nat_lt q.said most_lines
 abbrev pub after_line : Quota → Quota
 after_line q = cond (has_line q) (record q { said = q.said + 1 }) q
 
--- whether an entry of an event is said: of connections nothing where it is quiet, and without a
--- format only why one was closed
+-- whether an entry of an event is said: of connections nothing if it is quiet, and without a format
+-- only why one was closed
 abbrev pub is_event_said : Bool → Bool → Bool → Event → Bool
 is_event_said quiet has_format has_cause Accepted = not quiet && has_format
 is_event_said quiet has_format has_cause Refused = not quiet && has_format

@@ -2,7 +2,7 @@
 
 use std::time::{Instant, SystemTime, UNIX_EPOCH};
 
-/// How many microseconds have passed since a moment; 0 where there is none, or the clock can't be
+/// How many microseconds have passed since a moment; 0 if there is none, or the clock can't be
 /// read.
 pub fn micros_since(rt: &HostRuntime, moment: Option<Instant>) -> u64 {
     let Some(moment) = moment else {
@@ -14,7 +14,7 @@ pub fn micros_since(rt: &HostRuntime, moment: Option<Instant>) -> u64 {
     }
 }
 
-/// Milliseconds since 1970 began in UTC; 0 where the clock can't be read.
+/// Milliseconds since 1970 began in UTC; 0 if the clock can't be read.
 pub fn unix_millis(rt: &HostRuntime) -> u64 {
     let Ok(now) = SystemTime::now(rt) else {
         return 0;

@@ -1,7 +1,7 @@
 //! The lines that a service says on standard error.
 //!
-//! Nothing that stands on the other end of standard error may hold a service up, so a line is said
-//! only if there is room for it at once. How many were left out is said in a later one.
+//! Whatever is at the other end of standard error may not hold a service up, so a line is said only
+//! if there is room for it at once. How many were left out is said in a later one.
 
 ghost use Rattle.std.specs.Prelude.{◌≡◌, IfOk};
 ghost use Rattle.service_status.specs.Lines.{after_line, has_line, is_said, line_text, plain_text};
@@ -187,7 +187,7 @@ impl Log {
         self.quota.take(now) && say_bytes(line)
     }
 
-    // Milliseconds since the start. A clock that can't be read stands still.
+    // Milliseconds since the start. A clock that can't be read stays at one time.
     fn now(&self, rt: &HostRuntime) -> u64 {
         match self.start.elapsed(rt) {
             Ok(elapsed) => u64::try_from(elapsed.as_millis()).unwrap_or(u64::MAX),
@@ -196,7 +196,7 @@ impl Log {
     }
 }
 
-// Whether an entry is said: of connections nothing where it is quiet, and without a format only why
+// Whether an entry is said: of connections nothing if it is quiet, and without a format only why
 // one was closed.
 fn says(quiet: bool, format: Option<LogFormat>, entry: &Entry) -> bool
     ensures { result ≡ is_said quiet format entry.now }

@@ -38,7 +38,7 @@ pub enum StatusFault {
     /// The address could not be printed.
     #[error("a write failed")]
     Write,
-    /// There was no memory.
+    /// Memory was refused.
     #[error("out of memory")]
     Memory,
 }
@@ -59,7 +59,7 @@ impl Status {
     ///
     /// # Errors
     ///
-    /// `Listen` if the address can't be listened on, `Memory` if there is none.
+    /// `Listen` if the address can't be listened on, `Memory` if memory is refused.
     pub fn listen(rt: &HostRuntime, poll: &Poll, address: SocketAddr) -> Result<Status, StatusFault>
         ensures free { IfOk result (λ status. status.visitors.items ≡ replicate 8 None) }
     {
@@ -81,7 +81,7 @@ impl Status {
         }
     }
 
-    /// Prints where it listens.
+    /// Prints at which address it listens.
     ///
     /// # Errors
     ///

@@ -67,7 +67,7 @@ pub enum InputState {
 ///
 /// # Errors
 ///
-/// That of the system if it reports none, as of a file.
+/// That of the system if it reports no events, as for a file.
 pub fn watch_input(poll: &Poll) -> io::Result<()> {
     poll.registry().register(
         &mut SourceFd(&libc::STDIN_FILENO),

@@ -50,17 +50,17 @@ abbrev pub quoted_field : LogFormat → List ℕ → List ℕ → List ℕ
 quoted_field Text name value = codes " " ++ (name ++ (codes "=" ++ value))
 quoted_field Json name value = codes ",\"" ++ (name ++ (codes "\":\"" ++ (value ++ codes "\"")))
 
--- a number's field; nothing where there is none
+-- a number's field; nothing if there is none
 abbrev pub number_field : LogFormat → List ℕ → Option ℕ → List ℕ
 number_field format name None = []
 number_field format name (Some n) = plain_field format name (decimal n)
 
--- an address's field; nothing where there is none
+-- an address's field; nothing if there is none
 abbrev pub peer_field : LogFormat → Option SocketAddr → List ℕ
 peer_field format None = []
 peer_field format (Some a) = quoted_field format (codes "peer") (socket_text a)
 
--- a text's field; nothing where there is none
+-- a text's field; nothing if there is none
 abbrev pub text_field : LogFormat → List ℕ → Option (List ℕ) → List ℕ
 text_field format name None = []
 text_field format name (Some text) = quoted_field format name text

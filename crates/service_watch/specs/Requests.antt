@@ -5,7 +5,7 @@ use Rattle.service_watch.specs.declared.draft_life.DraftLife.TheVariants.{Public
 use Rattle.service_watch.specs.declared.requests.Page.{Page}
 use Rattle.service_watch.specs.declared.requests.Page.TheVariants.{Health, Stopping, Metrics, NotFound, BadMethod, BadRequest}
 
--- a page that is only to be got
+-- a page for GET alone
 abbrev pub if_got : List ℕ → Page → Page
 if_got method page = cond (bytes_eq method (codes "GET")) page BadMethod
 
@@ -29,7 +29,7 @@ status_line NotFound = codes "404 Not Found"
 status_line BadMethod = codes "405 Method Not Allowed"
 status_line BadRequest = codes "400 Bad Request"
 
--- the field that names the method, where another was asked for
+-- the field that names the method, if another was asked for
 abbrev pub allow_field : Page → List ℕ
 allow_field BadMethod = codes "Allow: GET\r\n"
 allow_field _ = []

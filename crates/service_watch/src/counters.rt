@@ -113,7 +113,7 @@ impl Cause {
     }
 }
 
-// Where frames of a kind are counted: those that no client sends together.
+// Where frames of a kind are counted: those that no client sends are counted together.
 fn frame_slot(kind: u8) -> usize
     ensures slot { result ≡ frame_slot kind }
     ensures within { result < 48 }
@@ -125,7 +125,7 @@ fn frame_slot(kind: u8) -> usize
     }
 }
 
-// Where replies are counted: those that no server makes together.
+// Where replies are counted: those that no server makes are counted together.
 fn reply_slot(kind: u8, first: u8) -> usize
     ensures slot { result ≡ reply_slot kind first }
     ensures within { result < 48 }

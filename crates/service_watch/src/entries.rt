@@ -75,7 +75,7 @@ impl Event {
 ///
 /// # Errors
 ///
-/// `AllocError` where memory was refused.
+/// `AllocError` if memory was refused.
 pub fn entry_line(
     alloc: Global,
     format: LogFormat,

@@ -60,7 +60,7 @@ const BINS: [&str; 13] = [
 ///
 /// # Errors
 ///
-/// `AllocError` where memory was refused.
+/// `AllocError` if memory was refused.
 pub fn metrics_text(alloc: Global, figures: &Figures) -> Result<String, AllocError> {
     let mut text = String::new(alloc);
     push_connections(alloc, &mut text, figures)?;

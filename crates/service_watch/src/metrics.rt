@@ -10,7 +10,7 @@ use std::alloc::{AllocError, Global};
 pub enum Kind {
     /// A number that only grows.
     Counter,
-    /// A number that may become anything.
+    /// A number that may rise and fall.
     Gauge,
     /// How many fell below each of some bounds.
     Histogram,
@@ -32,11 +32,11 @@ impl Kind {
 /// One value of a family.
 #[derive(Clone, Copy)]
 pub struct Sample {
-    /// What comes after the family's name: labels in braces, for one.
+    /// What comes after the family's name: labels in braces, for example.
     pub labels: &'static str,
     /// The number.
     pub value: u64,
-    /// What comes after the number: an exponent, for one.
+    /// What comes after the number: an exponent, for example.
     pub exponent: &'static str,
 }
 
@@ -44,7 +44,7 @@ pub struct Sample {
 ///
 /// # Errors
 ///
-/// `AllocError` where memory was refused: a part may have been added.
+/// `AllocError` if memory was refused: a part may have been added.
 pub fn push_family(
     alloc: Global,
     text: &mut String,

@@ -8,11 +8,11 @@ ghost use Rattle.service_watch.specs.Replies.{reply_head};
 pub struct ReplyHead {
     /// Its kind.
     pub kind: u8,
-    /// The first byte of its payload: a refusal's code, an answer's scheme. 0 where there is none.
+    /// The first byte of its payload: a refusal's code, an answer's scheme. 0 if there is none.
     pub first: u8,
 }
 
-/// What a reply begins with; none where it has not the five bytes before a payload.
+/// What a reply begins with; none if it doesn't have the five bytes before a payload.
 pub fn head_of_reply(bytes: &[u8]) -> Option<ReplyHead>
     ensures { result ≡ reply_head bytes.now }
 {

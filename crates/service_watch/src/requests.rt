@@ -24,9 +24,9 @@ pub enum Page {
     Metrics,
     /// There is no such page.
     NotFound,
-    /// There is such a page, and it is only to be got.
+    /// There is such a page, but only GET is allowed.
     BadMethod,
-    /// These bytes are no request.
+    /// The bytes are no request.
     BadRequest,
 }
 
@@ -57,7 +57,7 @@ fn page_at(method: &[u8], target: &[u8]) -> Page
     }
 }
 
-// A page that is only to be got.
+// A page for GET alone.
 fn got_page(method: &[u8], page: Page) -> Page
     ensures { result ≡ if_got method.now page }
 {
@@ -92,7 +92,7 @@ impl Page {
         }
     }
 
-    // The field that names the method, where another was asked for.
+    // The field that names the method, if another was asked for.
     fn allows(self) -> &'static str
         ensures { result.now ≡ allow_field self }
     {
@@ -117,7 +117,7 @@ impl Page {
 ///
 /// # Errors
 ///
-/// `AllocError` where memory was refused.
+/// `AllocError` if memory was refused.
 pub fn response(alloc: Global, page: Page, content: &str) -> Result<String, AllocError>
     ensures { IfOk result (λ text. string_bytes text ≡ response_text page content.now) }
 {
@@ -140,7 +140,7 @@ pub fn response(alloc: Global, page: Page, content: &str) -> Result<String, Allo
 ///
 /// # Errors
 ///
-/// `AllocError` where memory was refused.
+/// `AllocError` if memory was refused.
 pub fn health(
     alloc: Global,
     version: u64,

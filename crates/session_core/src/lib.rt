@@ -1,5 +1,5 @@
 //! Sessions, all in one place: a server of sessions over one store, a client, and the engines that
-//! run both over a reader and a writer. Who uses the library begins here.
+//! run both over a reader and a writer. Users of the library begin here.
 //!
 //! [`ServerCore`] and [`ClientCore`] know no connection: bytes go in by `feed`, in any pieces, and
 //! bytes come out. [`serve`] and [`converse`] run them over a reader and a writer, and [`once`]
@@ -7,11 +7,11 @@
 //! a [`Header`] and records, or read by [`read_snapshot`], and [`write_snapshot`] writes it back.
 //! [`Lanes`] is the kernel to use, [`Plain`] the slow one that it is compared with.
 //!
-//! Every type that a call takes or answers is here, so nothing else needs to be imported.
+//! Every type that a call takes or returns is here, so nothing else needs to be imported.
 //!
 //! A whole session by hand: a publisher's store, a session, a client that is let in, gets its hint,
-//! and retrieves a record without the server learning which. The test
-//! `tests::a_record_is_retrieved` is this code, over both kernels and by both schemes.
+//! and retrieves a record without the server learning which. The test `a_record_is_retrieved` of
+//! tests/long/session_core is this code, over both kernels and by both schemes.
 //!
 //! ```
 //! let store = Store::open(alloc, Lanes, snapshot)?;
@@ -44,8 +44,6 @@
 //!     sent = fed.out;
 //! }
 //! ```
-//!
-//! Its test is in `tests`.
 //!
 //! Its tests are in tests/long/session_core.
 #![tactic(auto)]

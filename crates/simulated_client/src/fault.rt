@@ -15,7 +15,7 @@ pub enum RunFault {
     /// The client stopped.
     #[error(transparent)]
     Client(ClientFault),
-    /// A reply that is none of those that the ask may get, or bytes after it.
+    /// A reply other than those that the ask may get, or bytes after it.
     #[error("a bad reply")]
     BadReply,
     /// Bytes came after the run had ended.

@@ -3,7 +3,7 @@
 /// How many bytes of a frame say how long its payload is.
 const LEN_BYTES: usize = 4;
 
-/// How many bytes stand before the payload: its length and its kind.
+/// How many bytes come before the payload: its length and its kind.
 const PREFIX_LEN: usize = 5;
 
 /// The most bytes of a payload.
@@ -17,8 +17,8 @@ pub struct FrameEnd {
 }
 
 impl FrameEnd {
-    /// Takes more bytes. Whether the frame is whole then; none if it is longer than any, or bytes
-    /// come after it.
+    /// Takes more bytes. Returns whether the frame is whole then; none if it is longer than any, or
+    /// bytes come after it.
     pub fn take(&mut self, piece: &[u8]) -> Option<bool> {
         self.note_len(piece);
         self.came = self.came.saturating_add(piece.len());

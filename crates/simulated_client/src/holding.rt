@@ -58,8 +58,8 @@ impl<'a, R: FileSystem> ClientRun<'a, R> {
         }
     }
 
-    /// Writes the hint kept anew, as its changes have moved it. One that is damaged is of no more
-    /// use.
+    /// Writes the hint kept anew, as its changes have moved it. One that is damaged is of no
+    /// further use.
     pub(crate) fn fold(&mut self) -> Result<(), RunFault> {
         let Some(kept) = &self.kept else {
             return Ok(());

@@ -1,8 +1,8 @@
 //! A run of a client with a folder of hints, over a connection of which only the bytes are seen.
 //!
-//! What `pir_client` does over sockets is done here by a [`ClientRun`] without any: bytes go in by
-//! `feed`, in any pieces, and what is to be sent comes out. Its folder may be on any file system. A
-//! run asks for one record after another, and one call at most is outstanding.
+//! What `pir_client` does over sockets is done here by a [`ClientRun`] without sockets: bytes go in
+//! by `feed`, in any pieces, and what is to be sent comes out. Its folder may be on any file
+//! system. A run asks for one record after another, and one call at most is outstanding.
 //!
 //! Its tests are in tests/long/simulated_client.
 #![tactic(auto)]

@@ -6,7 +6,7 @@ use frame_codec::{Frame, FrameRead, ReadFault, Reader};
 use safe_files::FileSystem;
 use std::alloc::Global;
 
-/// How many bytes stand before the words of a part: the frame's length, its kind, the scheme, the
+/// How many bytes come before the words of a part: the frame's length, its kind, the scheme, the
 /// version and the part.
 const HEAD_LEN: usize = 18;
 

@@ -34,7 +34,7 @@ pub struct Retrieved {
 pub enum RunStep {
     /// More of the reply is to come.
     Waits,
-    /// These bytes are to be sent.
+    /// The bytes that are to be sent.
     Sends(Vec<u8>),
     /// Nothing more is to be sent, and the connection is to be closed.
     Ends(RunEnd),

@@ -70,7 +70,7 @@ impl<'a, R: FileSystem> ClientRun<'a, R> {
         };
         let left = self.wanted.len().saturating_sub(self.turns);
         if left > 1 {
-            // Without memory for it each is made by itself.
+            // If memory for it is refused, each is made by itself.
             let _ = self.client.prepare_queries(left);
         }
         self.turns = self.turns.saturating_add(1);
@@ -133,7 +133,7 @@ impl<'a, R: FileSystem> ClientRun<'a, R> {
         self.ask_over_rows()
     }
 
-    // Moves the hint kept by what a reply says. One that it can't move is of no more use.
+    // Moves the hint kept by what a reply says. One that it can't move is of no further use.
     fn move_kept(&mut self, frame: &Frame) -> Result<(), RunFault> {
         let now = self.known()?;
         let Some(kept) = &mut self.kept else {

@@ -62,7 +62,7 @@ impl Change {
     }
 }
 
-/// Writes bytes at a place, with zeros before it where there was nothing.
+/// Writes bytes at a place, with zeros before it if there was nothing.
 pub(crate) fn put(bytes: &mut Vec<u8>, at: usize, written: &[u8]) -> Result<(), AllocError> {
     if written.is_empty() {
         return Ok(());

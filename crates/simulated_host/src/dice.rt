@@ -30,7 +30,7 @@ impl Dice {
         (self.number() % end as u64) as usize
     }
 
-    /// Whether something happens whose odds are one to so many.
+    /// Whether something happens that happens one time in so many.
     pub fn one_in(&mut self, odds: usize) -> bool {
         self.below(odds) == 0
     }

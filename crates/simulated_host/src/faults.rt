@@ -10,7 +10,7 @@ pub type Odds = usize;
 pub struct Faults {
     /// There is no room: a write that makes a file longer is cut short, or fails.
     pub full: bool,
-    /// To open a file or a folder, and to ask what stands at a path.
+    /// To open a file or a folder, and to ask what is at a path.
     pub opens_fail: Odds,
     /// To read a file.
     pub reads_fail: Odds,

@@ -14,7 +14,7 @@ pub struct SimulatedNames<'a> {
 }
 
 impl<'a> SimulatedNames<'a> {
-    /// These names.
+    /// The names that are listed.
     pub(crate) fn new(files: SimulatedFiles<'a>, names: Vec<u8>) -> SimulatedNames<'a> {
         SimulatedNames {
             files,

@@ -37,7 +37,7 @@ pub(crate) struct Handle {
     id: u64,
 }
 
-/// The error of what failed for no better reason.
+/// The error of what failed for no particular reason.
 pub(crate) fn failed() -> io::Error {
     io::Error::from(ErrorKind::Other)
 }

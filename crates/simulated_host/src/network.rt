@@ -141,7 +141,7 @@ pub struct Connection {
 
 impl Connection {
     // Something comes that is on its way, in one direction if there is any, else in the other.
-    // Whether anything did.
+    // Returns whether anything did.
     fn deliver(&mut self, dice: &mut Dice, first_up: bool) -> bool {
         let up = self.up.is_under_way();
         let down = self.down.is_under_way();

@@ -65,7 +65,7 @@ impl Nodes {
         self.slots.get_mut(at)?.as_mut()
     }
 
-    /// Adds a node, and answers its number. If there is no place for it, those that nobody names or
+    /// Adds a node, and returns its number. If there is no place for it, those that nobody names or
     /// has open are dropped.
     pub(crate) fn add(&mut self, node: Node, names: &Names) -> Result<usize, AllocError> {
         if self.free_slot() == self.slots.len() {

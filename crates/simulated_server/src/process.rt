@@ -196,7 +196,7 @@ impl<'a> Process<'a> {
         Turned::Accepted
     }
 
-    // Opens the session of a connection. Whether it is open.
+    // Opens the session of a connection. Returns whether it is open.
     fn opens_session(&mut self, id: u64) -> bool {
         match &mut self.serving {
             Some(serving) => serving.open_session(id).is_ok(),

@@ -49,7 +49,7 @@ pub length-header : (h : Header) → IsHeader h → length (header_bytes h) ≡ 
 unfolding header_bytes
 length-header h is = simp (length-append, length-number, length-magic h.form, is.seed, is.publisher) (omega arith)
 
--- the fields stand after magic and form
+-- the fields come after magic and form
 pub header_parts : (h : Header) → IsHeader h → (fields : List ℕ) × (header_bytes h ≡ magic h.form ++ (form_bytes h.form ++ fields))
 unfolding header_bytes
 header_parts h is = (
@@ -58,6 +58,6 @@ header_parts h is = (
   simp append_assoc refl,
 )
 
--- what stands after the magic
+-- what comes after the magic
 pub header_fields : (h : Header) → IsHeader h → (fields : List ℕ) × (header_bytes h ≡ magic h.form ++ fields)
 header_fields h is = let p = header_parts h is in (form_bytes h.form ++ p.0, p.1)

@@ -1,4 +1,4 @@
--- From what was read to what is answered.
+-- From what was read to what is returned.
 use Rattle.std.proofs.Common.{◌≡◌, ◌⊎◌, ℕ, suc, ◌<◌, List, [], ◌∷◌, slice_index, drop, ◌++◌, length, Option, Some, None, IfSome, inl, inr, refl, sym, ap, subst, ◌∙◌, append_assoc, arith, ◌+◌, ◌≤◌}
 use Rattle.std.proofs.lemmas.List.{length-append, length-drop, append-nil, take_at}
 use Rattle.std.specs.Io.KnownBytes.{Consumes, IsAtEnd}
@@ -64,7 +64,7 @@ stops_at_form fields len other =
       ap (λ (x : List ℕ). magic 129 ++ x) (same ∙ sym (append-nil (slice_index fields 0 ∷ drop 1 fields))),
     )
 
--- the input ended, or failed, in the records, or there was no memory for them
+-- the input ended, or failed, in the records, or memory for them was refused
 in_records : (h : Header) (part : List ℕ) → IsHeader h → IsAccepted h → length part < records_len h → IsUnfinished (header_bytes h ++ part)
 in_records h part header accepted lt = inr (inr (h, part, (header, accepted, refl), omega (arith, lt)))
 
@@ -146,7 +146,7 @@ answers_fault fault None b read p s = tt
 answers_fault fault (Some xs) None read p s = absurd p
 answers_fault fault (Some xs) (Some ys) read p s = subst (λ (x : List ℕ). MayRefuse fault x) (sym p) (answered fault read ys s)
 
--- one read more that brought nothing, or that found no memory
+-- one read more that brought nothing, or that was refused memory
 pub kept_more : (fault : SnapshotFault) (before part : List ℕ) (wanted : ℕ) (left : Option (List ℕ)) → length before < wanted → EndsKept 1 fault part left
     → EndsKept wanted fault (before ++ part) left
 kept_more faults.Short before part wanted left lt d = (omega (arith, length-append before part, d.0), d.1)
@@ -176,7 +176,7 @@ below_more faults.BadLayout before part n wanted left le d = absurd d
 below_more faults.BadDigest before part n wanted left le d = absurd d
 below_more faults.TrailingBytes before part n wanted left le d = absurd d
 
--- the end, or a failed read, and no memory is wanted
+-- the end, or a failed read, and no memory is asked for
 pub kept_below : (fault : SnapshotFault) (wanted : ℕ) (part : List ℕ) (left : Option (List ℕ)) → EndsBelow wanted fault part left →
     EndsKept wanted fault part left
 kept_below faults.Short wanted part left d = d

@@ -54,7 +54,7 @@ magic_len bytes (inl e) = ap length e ∙ length-magic 1
 magic_len bytes (inr (inl e)) = ap length e ∙ length-magic 2
 magic_len bytes (inr (inr e)) = ap length e ∙ length-magic 129
 
--- what stands at the beginning of a header
+-- what is at the beginning of a header
 prefix_of_header : (h : Header) (rest bytes : List ℕ) → IsHeader h → bytes ≡ header_bytes h ++ rest → IsMagic (take 8 bytes) × (wanted bytes ≤ length bytes)
 prefix_of_header h rest bytes is e =
     let fields = header_fields h is in

@@ -56,7 +56,7 @@ tells_form form (inr (inl e)) = rw e refl
 tells_form form (inr (inr (inl e))) = rw e refl
 tells_form form (inr (inr (inr e))) = rw e refl
 
--- whether the form is wide stands in the magic: its fourth byte is S or W
+-- the magic says whether the form is wide: its fourth byte is S or W
 pub tells_wide : (form : ℕ) → IsForm form → slice_index (magic form) 3 ≡ 83 + 4 * length (form_bytes form)
 unfolding magic form_bytes
 tells_wide form (inl e) = rw e refl

@@ -20,7 +20,7 @@ part_taken a b c whole n e lt =
 pub part_shorter : (a b c whole : List ℕ) (n : ℕ) → whole ≡ a ++ (b ++ c) → n < length b → length a + n < length whole
 part_shorter a b c whole n e lt = omega (arith, ap length e, length-append a (b ++ c), length-append b c)
 
--- what a `?` returns where only one fault can come
+-- what a `?` returns if only one fault can come
 pub reported_as : {T E : Type 0} (r : Result T E) (w : E) (Q : E → Type 0) → IsErrAnd r (λ e. e ≡ w) → Q w → IfErr r Q
 reported_as (Ok x) w Q h q = absurd h
 reported_as (Err e) w Q h q = subst Q (sym h) q

@@ -4,7 +4,7 @@ use Rattle.std.specs.Io.KnownBytes.{IsAtEnd}
 use Rattle.snapshot_file.specs.declared.copying.CopyFault.{CopyFault}
 use Rattle.snapshot_file.specs.declared.copying.CopyFault.TheVariants.{Few, Many, Read, Write, Memory}
 
--- What had been read when it stopped, where so many bytes were wanted, and what was left: too few
+-- What had been read when it stopped, if so many bytes were wanted, and what was left: too few
 -- bytes come to light at the end of the input, one too many when it has come, and a failed write
 -- says how many had been read.
 abbrev pub StopsCopyingAt : ℕ → CopyFault → List ℕ → Option (List ℕ) → Type 0

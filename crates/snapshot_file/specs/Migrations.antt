@@ -29,7 +29,7 @@ pub record IsMoved (h : Header) (records : List ℕ) (moved : Snapshot) : Type 0
   pub header : header_of moved ≡ in_slots h
   pub slots : AreInSlots h records moved.records.items
 
--- the first cause that stands
+-- the first cause that applies
 abbrev pub IsMigrateFault : Header → MigrateError → Type 0
 IsMigrateFault h NotFormOne = ¬ IsPlainForm h.form
 IsMigrateFault h TooWide = IsPlainForm h.form × ¬ IsLayout (shape_of (in_slots h))

@@ -1,4 +1,4 @@
--- What faults are called where they are printed.
+-- What faults are called when they are printed.
 use Rattle.std.specs.Prelude.{ℕ, List, codes}
 use Rattle.snapshot_file.specs.declared.migration.MigrateError.{MigrateError}
 use Rattle.snapshot_file.specs.declared.migration.MigrateError.TheVariants as migration

@@ -21,7 +21,7 @@ magic form = if form == 1 then codes "PIRSNAP1" else (if form == 2 then codes "P
 unfoldable pub form_bytes : ℕ → List ℕ
 form_bytes form = if is_wide form then form ∷ [] else []
 
--- the wide forms: in 129 all records have one length, in 130 each has its own and stands in a slot
+-- the wide forms: in 129 all records have one length, in 130 each has its own and is in a slot
 abbrev pub IsWideForm : ℕ → Type 0
 IsWideForm form = (form ≡ 129) ⊎ (form ≡ 130)
 
@@ -51,7 +51,7 @@ header_of s = record {
   publisher = s.publisher;
 }
 
--- where the digits of its records stand
+-- where the digits of its records are
 abbrev pub shape_of : Header → Shape
 shape_of h = shape_in h.form h.width h.record_len h.groups h.count
 

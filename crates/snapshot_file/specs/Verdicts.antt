@@ -45,7 +45,7 @@ HasFile bytes rest = (h : Header) × (records : List ℕ) × IsFile h records ×
 abbrev pub HasBadSlot : List ℕ → Type 0
 HasBadSlot bytes = (h : Header) × (records : List ℕ) × IsFile h records × (has_slots h records ≡ false) × (bytes ≡ snapshot_bytes h records)
 
--- the fault of a whole input, where nothing keeps it from being read
+-- the fault of a whole input, if nothing keeps it from being read
 abbrev pub HasSnapshotFault : SnapshotFault → List ℕ → Type 0
 HasSnapshotFault faults.NotSnapshot bytes = (8 ≤ length bytes) × ¬ IsMagic (take 8 bytes)
 HasSnapshotFault faults.BadLayout bytes = (rest : List ℕ) × HasBadHeader bytes rest
@@ -61,8 +61,8 @@ abbrev pub IsVerdict : List ℕ → Result (Header × List ℕ) SnapshotFault �
 IsVerdict bytes (Ok s) = IsSnapshot s.0 s.1 × (bytes ≡ snapshot_bytes s.0 s.1)
 IsVerdict bytes (Err fault) = HasSnapshotFault fault bytes
 
--- what may be answered to a whole input in place of its snapshot: its fault, or that a read failed
--- or, after an accepted header, that there was no memory
+-- what may be returned for a whole input in place of its snapshot: its fault, or that a read failed
+-- or, after an accepted header, that memory was refused
 abbrev pub MayRefuse : SnapshotFault → List ℕ → Type 0
 MayRefuse faults.NotSnapshot bytes = HasSnapshotFault faults.NotSnapshot bytes
 MayRefuse faults.BadLayout bytes = HasSnapshotFault faults.BadLayout bytes
@@ -91,7 +91,7 @@ EndsBelow wanted faults.Short part left = (length part < wanted) × IsAtEnd left
 EndsBelow wanted faults.Read part left = length part < wanted
 EndsBelow wanted _ part left = ⊥
 
--- the end before so many bytes were there, or no memory for what came
+-- the end before so many bytes were there, or memory for what came was refused
 abbrev pub EndsKept : ℕ → SnapshotFault → List ℕ → Option (List ℕ) → Type 0
 EndsKept wanted faults.Memory part left = Unit {0}
 EndsKept wanted faults.Short part left = (length part < wanted) × IsAtEnd left

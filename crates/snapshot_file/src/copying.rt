@@ -1,4 +1,4 @@
-//! A snapshot written while its records are read: they stand nowhere as a whole.
+//! A snapshot written while its records are read: nothing holds them all at once.
 
 ghost use Rattle.std.specs.Prelude.{◌≡◌, ◌≤◌, ◌++◌, ℕ, List, length, OnOk, IfOk, IfErr};
 ghost use Rattle.std.specs.Io.KnownBytes.{Appends, Consumes, IsAtEnd};
@@ -31,7 +31,7 @@ pub enum CopyFault {
     /// A write failed, or took no byte, when so many bytes of the records had been read.
     #[error("the snapshot could not be written")]
     Write(usize),
-    /// There is no memory for the header, or for a piece of the records. Nothing was read then.
+    /// Memory for the header, or for a piece of the records, was refused. Nothing was read then.
     #[error("out of memory")]
     Memory,
 }
@@ -47,8 +47,9 @@ impl From<AllocError> for CopyFault {
 }
 
 /// Writes the snapshot of a header and of all bytes that a reader has, which must be as many as the
-/// header's records have, and answers its digest. They pass through a buffer of 64 KiB; no other
-/// memory is taken but the header's. Whether they are slots, in a form of slots, is not judged.
+/// header's records have, and returns its digest. The bytes pass through a buffer of 64 KiB; no
+/// other memory is taken but the header's. Whether they are slots, in a form of slots, is not
+/// judged.
 ///
 /// # Errors
 ///

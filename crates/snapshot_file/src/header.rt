@@ -35,8 +35,8 @@ pub fn magic_bytes(form: u8) -> [u8; MAGIC_LEN]
     }
 }
 
-/// What form a snapshot has that begins with these bytes; 129 stands for both wide ones, which the
-/// next byte tells apart.
+/// What form a snapshot has that begins with these bytes; 129 means either of the two wide forms,
+/// which the next byte tells apart.
 pub fn form_of(first: [u8; MAGIC_LEN]) -> Option<u8>
     ensures found { IfSome result (λ form.
         ((form ≡ 1) ⊎ (form ≡ 2) ⊎ (form ≡ 129)) × (first ≡ magic form)) }

@@ -2,8 +2,7 @@
 //!
 //! A snapshot is a header of 91 bytes, or 92 in a wide form, the records one after another, and the
 //! SHA-256 digest (FIPS 180-4) of all bytes before it. `specs/Snapshots.antt` defines these bytes,
-//! `specs/Verdicts.antt` what a reader makes of an input. Numbers stand with their lowest byte
-//! first.
+//! `specs/Verdicts.antt` what a reader makes of an input. Numbers have their lowest byte first.
 //!
 //! Its tests are in `tests_frame::snapshots` and `tests/long/tests_frame`.
 #![tactic(auto)]

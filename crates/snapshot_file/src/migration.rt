@@ -16,7 +16,7 @@ use thiserror::Error;
 /// Why records are not moved into slots.
 #[derive(Clone, Copy, Debug, PartialEq, Eq, Error)]
 pub enum MigrateError {
-    /// The records have slots already, or a form that there is not.
+    /// The records have slots already, or a form that doesn't exist.
     #[error("the records are not of form 1 or 129")]
     NotFormOne,
     /// With two bytes more for each record the layout is beyond the limits.
@@ -28,7 +28,7 @@ pub enum MigrateError {
 }
 
 impl MigrateError {
-    /// What the error is called where it is printed.
+    /// What the error is called when it is printed.
     #[tactic(auto, unfolding(crate::specs::Names::migrate_error_name))]
     pub fn name(self) -> &'static str
         ensures { result.now ≡ migrate_error_name self }
@@ -52,7 +52,7 @@ impl From<AllocError> for MigrateError {
 }
 
 /// The same records in form 2, or in form 130 if they are of form 129: version, seed, publisher and
-/// dimension stay, and each record stands in a slot of two bytes more. The layout of the slots is
+/// dimension stay, and each record is in a slot of two bytes more. The layout of the slots is
 /// accepted whenever there is a result.
 ///
 /// # Errors

@@ -125,7 +125,7 @@ fn read_fields<R: Read>(reader: &mut R, form: u8) -> Result<Header, SnapshotFaul
     }
 }
 
-/// Reads an accepted header, and nothing after it. It takes no memory.
+/// Reads an accepted header, and nothing after it, without taking memory.
 ///
 /// # Errors
 ///
@@ -269,12 +269,12 @@ fn read_body<R: Read>(
     Ok((records, digest))
 }
 
-/// Reads a snapshot, which must be the whole input. Each fault is answered with the first byte that
+/// Reads a snapshot, which must be the whole input. Each fault is returned at the first byte that
 /// makes it: `NotSnapshot` with byte 8, `BadLayout` with the header's last byte (91, or 92 in a
 /// wide form), `BadDigest` with the last byte of the digest, `TrailingBytes` with the byte after
-/// it; `Short` where the input ends before that, and `BadSlot` at its end. `Read` is answered where
-/// a read fails, an interrupted one too, and `Memory` only after an accepted header. What is
-/// reserved never passes 64 KiB and a small multiple of the bytes that came.
+/// it; `Short` if the input ends before that, and `BadSlot` at its end. `Read` is returned if a
+/// read fails, an interrupted one too, and `Memory` only after an accepted header. What is reserved
+/// never passes 64 KiB and a small multiple of the bytes that came.
 pub fn read_snapshot<R: Read>(alloc: Global, reader: &mut R) -> Result<Snapshot, SnapshotFault>
     ensures accepted { IfOk result (λ s. IsSnapshot (header_of s) s.records.items) }
     ensures input { IfOk result (λ s. IfSome (R.remaining reader.old) (λ bytes. bytes ≡
@@ -292,7 +292,7 @@ pub fn read_snapshot<R: Read>(alloc: Global, reader: &mut R) -> Result<Snapshot,
     Ok(snapshot)
 }
 
-/// Reads a snapshot as [`read_snapshot`] does, and answers with it its digest: the SHA-256 (FIPS
+/// Reads a snapshot as [`read_snapshot`] does, and returns its digest with it: the SHA-256 (FIPS
 /// 180-4) of its header and its records.
 ///
 /// # Errors

@@ -1,5 +1,5 @@
-//! The records of a snapshot, read piece by piece into what keeps them: their bytes are nowhere as a
-//! whole.
+//! The records of a snapshot, read piece by piece into what keeps them: nothing holds their bytes
+//! all at once.
 
 ghost use Rattle.std.specs.Prelude.{◌≡◌, ◌≤◌, ◌<◌, ◌*◌, ◌+◌, ◌^◌, ◌++◌, [], ℕ, List, length};
 ghost use Rattle.std.specs.Prelude.{OnOk, IfErr, IfOk};
@@ -28,7 +28,7 @@ pub trait RecordSink: Sized + Drop {
     /// The sizes of the records, and how many there is room for.
     ghost shape: { Self → Shape };
 
-    /// Takes further records, which stand one after another in `bytes`. It takes no memory.
+    /// Takes further records, one after another in `bytes`, without taking memory.
     fn take_records(&mut self, bytes: &[u8])
         requires whole { (n : ℕ) × (length bytes.now ≡ n * (shape self.old).record_len) }
         requires room { length (taken self.old) + length bytes.now

@@ -18,14 +18,14 @@ pub const MAX_DIMENSION: u16 = 1024;
 /// The fields of a snapshot but its records.
 #[derive(Clone, Copy, Debug, PartialEq, Eq)]
 pub struct Header {
-    /// 1 if all records have one length, 2 if each has its own and stands in a slot; 129 and 130
+    /// 1 if all records have one length, 2 if each has its own and is in a slot; 129 and 130
     /// likewise, with a wide digit matrix.
     pub form: u8,
     /// How many bits a digit has, 6 to 10 in a snapshot that is read.
     pub width: u8,
     /// How many bytes a record has.
     pub record_len: u16,
-    /// How many records stand in a column of the digit matrix.
+    /// How many records a column of the digit matrix has.
     pub groups: u16,
     /// How many records there are.
     pub count: u32,
@@ -43,14 +43,14 @@ pub struct Header {
 /// those of [`Header`], and the bytes of the records one after another, record 0 first.
 #[derive(Drop)]
 pub struct Snapshot {
-    /// 1 if all records have one length, 2 if each has its own and stands in a slot; 129 and 130
+    /// 1 if all records have one length, 2 if each has its own and is in a slot; 129 and 130
     /// likewise, with a wide digit matrix.
     pub form: u8,
     /// How many bits a digit has.
     pub width: u8,
     /// How many bytes a record has.
     pub record_len: u16,
-    /// How many records stand in a column of the digit matrix.
+    /// How many records a column of the digit matrix has.
     pub groups: u16,
     /// How many records there are.
     pub count: u32,
@@ -89,7 +89,7 @@ pub enum SnapshotFault {
     /// A read failed.
     #[error("the snapshot could not be read")]
     Read,
-    /// There is no memory, which is wanted only after an accepted header.
+    /// Memory, which is asked for only after an accepted header, was refused.
     #[error("out of memory")]
     Memory,
     /// The bytes of a record are no slot, in a form of slots. All else is as it should be.
@@ -132,7 +132,7 @@ pub enum WriteFault {
     /// A write failed, or took no byte.
     #[error("the snapshot could not be written")]
     Write,
-    /// There is no memory for the header.
+    /// Memory for the header was refused.
     #[error("out of memory")]
     Memory,
 }
@@ -186,8 +186,8 @@ impl Header {
         self.count as usize * self.record_len as usize
     }
 
-    /// The sizes of its records. They are accepted exactly within the limits; else the first cause
-    /// is named, in the order of [`LayoutError`].
+    /// The sizes of its records, accepted exactly within the limits; else the first cause is named,
+    /// in the order of [`LayoutError`].
     pub fn layout(&self) -> Result<Layout, LayoutError>
         ensures accepted { IfOk result (λ l. (l ≡ shape_of self.now) × IsLayout l) }
         ensures refused { IfErr result (IsLayoutFault (shape_of self.now)) }
@@ -209,7 +209,7 @@ impl Header {
         is_form(u16::from(self.form), self.record_len)
     }
 
-    /// Whether the bytes of each record are a slot, where the form has slots.
+    /// Whether the bytes of each record are a slot, if the form has slots.
     #[tactic(auto, unfolding(crate::specs::Snapshots::has_slots))]
     pub fn has_slots(&self, records: &[u8]) -> bool
         requires layout { IsLayout (shape_of self.now) }
@@ -224,8 +224,8 @@ impl Header {
         are_slots(&layout, records)
     }
 
-    /// Whether a reader takes it: a form that there is, a layout within its limits, a dimension in
-    /// 1 to [`MAX_DIMENSION`], and a version that is not 0.
+    /// Whether a reader takes it: an existing form, a layout within its limits, a dimension in 1 to
+    /// [`MAX_DIMENSION`], and a version that is not 0.
     pub fn is_accepted(&self) -> bool
         ensures { IsTrue result ↔ IsAccepted self.now }
     {

@@ -1,4 +1,4 @@
-//! A snapshot written record by record, from records that stand nowhere as a whole.
+//! A snapshot written record by record, from records that nothing holds all at once.
 
 ghost use Rattle.std.specs.Prelude.{◌≡◌, ◌≤◌, ◌<◌, ◌*◌, ◌+◌, ◌^◌, ◌++◌, ℕ, List, length, take};
 ghost use Rattle.std.specs.Prelude.{drop, OnOk, OnErr, IfErr, IfOk};
@@ -21,7 +21,7 @@ pub trait RecordSource: Sized + Drop {
     /// How many bytes a record has.
     ghost record_len: { Self → ℕ };
 
-    /// Writes record i into `out`, whatever it held. It takes no memory.
+    /// Writes record i into `out`, whatever it held, without taking memory.
     fn copy_record(&self, i: usize, out: &mut [u8])
         requires inside { i * record_len self.now + record_len self.now ≤ length (bytes self.now) }
         requires room { length out.old ≡ record_len self.now }
@@ -31,8 +31,8 @@ pub trait RecordSource: Sized + Drop {
 
 /// Writes the snapshot of a header and a source's records, as many as the header says and each of
 /// its length. The records pass through a buffer of at most 64 KiB; no other memory is taken but
-/// the header's. After `Write`, where a write failed or took no byte, a part of it went out, and
-/// not the whole; `Memory` comes before the first byte.
+/// the header's. After `Write`, when a write failed or took no byte, a part of it went out, and not
+/// the whole; `Memory` comes before the first byte.
 pub fn write_snapshot_from<S: RecordSource, W: Write>(
     alloc: Global,
     header: &Header,

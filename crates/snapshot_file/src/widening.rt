@@ -13,7 +13,7 @@ use thiserror::Error;
 /// Why no wide snapshot is made.
 #[derive(Clone, Copy, Debug, PartialEq, Eq, Error)]
 pub enum WidenError {
-    /// The snapshot is a wide one, or has a form that there is not.
+    /// The snapshot is a wide one, or has a form that doesn't exist.
     #[error("the snapshot is not of form 1 or 2")]
     NotOrdinary,
     /// Digits have 10 bits, which a wide store's noise leaves no room for.
@@ -25,7 +25,7 @@ pub enum WidenError {
 }
 
 impl WidenError {
-    /// What the error is called where it is printed.
+    /// What the error is called when it is printed.
     #[tactic(auto, unfolding(crate::specs::Names::widen_error_name))]
     pub fn name(self) -> &'static str
         ensures { result.now ≡ widen_error_name self }

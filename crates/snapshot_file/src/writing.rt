@@ -11,7 +11,7 @@ use std::alloc::Global;
 use std::io::Write;
 
 /// Writes the snapshot of a header and its records, `count` times `record_len` bytes if it is to be
-/// read back. After `Write`, where a write failed or took no byte, a part of it went out, and not
+/// read back. After `Write`, when a write failed or took no byte, a part of it went out, and not
 /// the whole; `Memory` comes before the first byte.
 pub fn write_snapshot_bytes<W: Write>(
     alloc: Global,

@@ -1,6 +1,6 @@
-//! Memory that is refused once: a frame that found none is written when it is tried again, and a
-//! reader that found none has given whole frames, in order, and stops. With ample memory nothing is
-//! refused here; `tests/memory` refuses each request of these tests in turn.
+//! Memory that is refused once: a frame that was refused it is written when it is tried again, and
+//! a reader that was refused it has given whole frames, in order, and stops. With ample memory
+//! nothing is refused here; `tests/memory` refuses each request of these tests in turn.
 
 use frame_codec::{Bytes, Frame, ReadFault, Reader, Words, write_frame};
 use std::alloc::{AllocError, Global};
@@ -56,7 +56,7 @@ fn try_made(alloc: Global) -> Result<Vec<Frame>, AllocError> {
     Ok(frames)
 }
 
-// The same, made again where memory was refused.
+// The same, made again if memory was refused.
 fn made(alloc: Global) -> Result<Vec<Frame>, AllocError> {
     match try_made(alloc) {
         Ok(frames) => Ok(frames),
@@ -76,7 +76,7 @@ fn try_encoded(alloc: Global) -> Result<Vec<u8>, AllocError> {
     Ok(stream)
 }
 
-// The same, put together again where memory was refused.
+// The same, put together again if memory was refused.
 fn stream_of_all(alloc: Global) -> Result<Vec<u8>, AllocError> {
     match try_encoded(alloc) {
         Ok(stream) => Ok(stream),
@@ -84,7 +84,7 @@ fn stream_of_all(alloc: Global) -> Result<Vec<u8>, AllocError> {
     }
 }
 
-// Writes a frame, again where memory was refused: the first try has added nothing.
+// Writes a frame, again if memory was refused: the first try has added nothing.
 fn writes(rt: &impl Abort, frame: &Frame, out: &mut Vec<u8>) {
     assert!(rt; frame.payload_len() <= 16_777_216);
     let before = out.len();
@@ -94,7 +94,7 @@ fn writes(rt: &impl Abort, frame: &Frame, out: &mut Vec<u8>) {
     }
 }
 
-// The bytes of frames, each written again where memory was refused.
+// The bytes of frames, each written again if memory was refused.
 fn written(rt: &impl Abort, alloc: Global, frames: &[Frame]) -> Vec<u8> {
     let mut out = Vec::new(alloc);
     for frame in frames {

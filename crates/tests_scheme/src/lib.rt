@@ -2,9 +2,9 @@
 //! lanes, of the digits, of both schemes, and of the hints that follow an edit.
 //!
 //! The gate proves a crate that has tests twice, once with them. The tests of these crates make
-//! public calls alone, so they stand here, above them all. Those in `src` are proved over what
-//! these calls promise, and then run. The others are modules in `tests/long/tests_scheme`, which
-//! the gate runs alone, and which `tests/long/run --prove` proves.
+//! public calls alone, so they are here, above them all. Those in `src` are proved over what these
+//! calls promise, and then run. The others are modules in `tests/long/tests_scheme`, which the gate
+//! runs alone, and which `tests/long/run --prove` proves.
 #![tactic(auto)]
 
 #[cfg(test)]

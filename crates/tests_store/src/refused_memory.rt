@@ -17,7 +17,7 @@ const FILE: [u8; 125] = [
     0x5c, 0x90, 0xe0, 0xae, 0xcf, 0x91, 0xa3, 0xf1, 0x46, 0xac, 0x72, 0xd2, 0xcd,
 ];
 
-// The file's records in slots; the fault alone where memory was refused to the move, and not to the
+// The file's records in slots; the fault alone if memory was refused to the move, and not to the
 // reading.
 fn moved(alloc: Global) -> Result<Vec<u8>, Option<MigrateError>> {
     let mut left = &FILE[..];

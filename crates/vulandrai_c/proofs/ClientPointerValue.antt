@@ -1,4 +1,5 @@
--- The machine value of a `ClientPointer`, with a session behind it and with none. Assumes `Logic`.
+-- The machine value of a `ClientPointer`, with a session that it leads to and with none. Assumes
+-- `Logic`.
 use Rattle.std.proofs.Common.{◌≡◌, ℕ, List, [], ◌∷◌, refl, ap, ◌∙◌}
 use seplogic.Ra.Ura.{Ura}
 use mir.Raw.{raw as bare}

@@ -1,8 +1,11 @@
 -- A place and an allocator's handle as the two fields of a struct by value, and with them a
 -- `BoxPointer`. Assumes `Logic`.
---     two_words, two_words_typed   the machine value of such a struct, and that it has its type where the handle has
---     fields_apart, fields_joined  what the fields own is what the handle owns, and the machine value is of two words; and back
---     pointer_apart, pointer_made  what a `BoxPointer` owns is the box's part and the handle's; and back
+--     two_words, two_words_typed   the machine value of such a struct, and that it has its type if
+--                                  the handle has
+--     fields_apart, fields_joined  what the fields own is what the handle owns, and the machine
+--                                  value is of two words; and back
+--     pointer_apart, pointer_made  what a `BoxPointer` owns is the box's part and the handle's; and
+--                                  back
 use Rattle.std.proofs.Common.{◌≡◌, ℕ, List, [], ◌∷◌, ◌++◌, refl, ap, ◌∙◌}
 use mathlib.Core.Bool.{true, ◌&&◌}
 use lib.Dec.{T}

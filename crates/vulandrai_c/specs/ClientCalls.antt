@@ -23,7 +23,7 @@ abbrev pub IsFresh : Bool → Option ClientSession → List ℕ → ℕ → Type
 IsFresh wide None seed number = ⊥
 IsFresh wide (Some s) seed number = (s.core ≡ record { state = fresh_in (client_profile wide) seed number; reader = Some [] }) × (s.waiting.items ≡ []) × (s.events.items ≡ [])
 
--- what opening did: there is a fresh client; or the number is too large (33), or there is no memory
+-- what opening did: there is a fresh client; or the number is too large (33), or memory is refused
 -- (5), and the handle is as before
 abbrev pub Opens : Bool → Option ClientSession → List ℕ → ℕ → Option ClientSession → ℕ → Type 0
 Opens wide old seed number new code =
@@ -66,7 +66,7 @@ abbrev pub hint_file_in : Option ClientSession → List ℕ
 hint_file_in None = []
 hint_file_in (Some s) = hint_file_of s.core.state
 
--- the whole file of the hint held was copied; or there was no memory (5); or there is room for
+-- the whole file of the hint held was copied; or memory was refused (5); or there is room for
 -- another number of bytes (35)
 abbrev pub CopiesHint : ClientSession → List ℕ → List ℕ → ℕ → Type 0
 CopiesHint s before after code =

@@ -1,4 +1,4 @@
--- The codes of a client's answers, as include/vulandrai.h lists them.
+-- The codes of a client's results, as include/vulandrai.h lists them.
 use Rattle.std.specs.Prelude.{ℕ, Bool, true, false, Result, Ok, Err}
 use Rattle.client_core.specs.declared.state.CallFault.{CallFault}
 use Rattle.client_core.specs.declared.state.CallFault.TheVariants as call
@@ -42,7 +42,7 @@ feed_code (Ok done) = 0
 feed_code (Err feed.Untaken) = 36
 feed_code (Err (feed.Client fault)) = client_code fault
 
--- the code of bytes that are no file of a hint, or that there is no memory for
+-- the code of bytes that are no file of a hint, or for which memory is refused
 abbrev pub hint_code : HintError → ℕ
 hint_code hint.Damaged = 80
 hint_code hint.Read = 70

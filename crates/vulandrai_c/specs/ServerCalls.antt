@@ -18,14 +18,14 @@ abbrev pub IsServerOf : List ℕ → Option ServerSession → Type 0
 IsServerOf bytes None = ⊥
 IsServerOf bytes (Some s) = session.Opens bytes s
 
--- a snapshot file that is none, or that there is no memory for, with its code
+-- bytes that are no snapshot file, or for which memory is refused, with their code
 pub record IsRefused (bytes : List ℕ) (code : ℕ) : Type 0 where
   pub fault : SnapshotFault
   pub code_is : code ≡ snapshot_code fault
   pub refused : MayRefuse fault bytes
 
--- what opening did: there is a server of these bytes; or they are refused, or there is no memory
--- for the server (5), and the handle is as before
+-- what opening did: there is a server of these bytes; or they are refused, or memory for the server
+-- is refused (5), and the handle is as before
 abbrev pub Opens : Option ServerSession → List ℕ → Option ServerSession → ℕ → Type 0
 Opens old bytes new code = ((code ≡ 0) × IsServerOf bytes new) ⊎ (IsRefused bytes code × (new ≡ old)) ⊎ ((code ≡ 5) × (new ≡ old))
 
@@ -98,7 +98,7 @@ abbrev pub snapshot_bytes_of : Option ServerSession → List ℕ
 snapshot_bytes_of None = []
 snapshot_bytes_of (Some s) = snapshot_of s.core.store
 
--- the whole snapshot file was copied; or there was no memory (5); or there is room for another
+-- the whole snapshot file was copied; or memory was refused (5); or there is room for another
 -- number of bytes (35)
 abbrev pub CopiesSnapshot : ServerSession → List ℕ → List ℕ → ℕ → Type 0
 CopiesSnapshot s before after code =

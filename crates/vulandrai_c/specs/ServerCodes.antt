@@ -1,4 +1,4 @@
--- The codes of a server's answers, as include/vulandrai.h lists them.
+-- The codes of a server's results, as include/vulandrai.h lists them.
 use Rattle.std.specs.Prelude.{ℕ, Result, Ok, Err}
 use Rattle.server_core.specs.declared.server.FeedError.{FeedError}
 use Rattle.server_core.specs.declared.server.FeedError.TheVariants as served
@@ -15,7 +15,7 @@ use Rattle.version_store.specs.declared.store.AppendError.TheVariants as append
 use Rattle.version_store.specs.declared.store.PublishError.{PublishError}
 use Rattle.version_store.specs.declared.store.PublishError.TheVariants as publication
 
--- the code of a snapshot file that is none, or that there is no memory for
+-- the code of bytes that are no snapshot file, or for which memory is refused
 abbrev pub snapshot_code : SnapshotFault → ℕ
 snapshot_code snapshot.NotSnapshot = 64
 snapshot_code snapshot.BadLayout = 65

@@ -6,8 +6,8 @@ ghost use Rattle.std_alloc.specs.Box.Ownership.{box_owns};
 use std::alloc::Allocator;
 use std::marker::Model;
 
-/// The place of a boxed value, and the allocator that its memory goes back to. It owns what the box
-/// owned.
+/// The place of a boxed value, and the allocator that its memory goes back to. `BoxPointer` owns
+/// what the box owned.
 pub(crate) struct BoxPointer<T, A: Allocator> {
     pub(crate) place: *mut T,
     pub(crate) heap: A,

@@ -1,4 +1,4 @@
-//! What a client answers to a call, as a code.
+//! What a client returns from a call, as a code.
 
 ghost use Rattle.std.specs.Prelude.{◌≤◌, length};
 ghost use Rattle.client_core.specs.Calls.{ClientCall};

@@ -1,4 +1,4 @@
-//! The codes of a client's answers, as include/vulandrai.h lists them.
+//! The codes of a client's results, as include/vulandrai.h lists them.
 
 ghost use Rattle.std.specs.Prelude.{◌≡◌};
 ghost use Rattle.vulandrai_c.specs.ClientCodes as codes;

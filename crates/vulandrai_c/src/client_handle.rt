@@ -55,7 +55,8 @@ impl ClientPointer {
     }
 }
 
-// Nothing behind the pointer is a thread's own: `proofs/client_handle/ClientPointer/TheSendSync`.
+// Nothing that the pointer leads to is a thread's own:
+// `proofs/client_handle/ClientPointer/TheSendSync`.
 unsafe impl Send for ClientPointer {}
 
 /// What a C program keeps of a client. All its bytes are 0 before `vul_client_open` and after

@@ -1,4 +1,4 @@
-//! The codes of answers that both sides have, as include/vulandrai.h lists them.
+//! The codes of results that both sides have, as include/vulandrai.h lists them.
 
 /// Done.
 pub const OK: u32 = 0;
@@ -6,7 +6,7 @@ pub const OK: u32 = 0;
 /// No greeting was accepted yet, or no hint is held.
 pub const NOT_READY: u32 = 1;
 
-/// There is no memory.
+/// Memory was refused.
 pub const MEMORY: u32 = 5;
 
 /// The handle is closed.
@@ -15,7 +15,7 @@ pub const CLOSED: u32 = 32;
 /// A first number above 2^62.
 pub const BAD_NUMBER: u32 = 33;
 
-/// A scheme that there is none of.
+/// There is no such scheme.
 pub const BAD_SCHEME: u32 = 34;
 
 /// Another number of bytes than there are to take, or a record's bytes that fit no frame.

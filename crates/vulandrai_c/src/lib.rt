@@ -7,7 +7,7 @@
 //! are right, that a handle is not copied, and that one thread at a time uses it.
 //!
 //! The exports whose names end in `_bytes` take slices, which are never null. c/slices.c calls them
-//! after it has looked.
+//! once it has checked that.
 //!
 //! Its tests are in tests/long/vulandrai_c, tests/c and tests/python.
 #![tactic(auto)]

@@ -195,8 +195,8 @@ pub extern "C" fn vul_server_edit_bytes(
     code
 }
 
-/// Puts a record after those of the draft. 32; 51 exactly if the bytes can't be a record; else
-/// 54 exactly if there is no layout of one record more; else it stands there, or 5.
+/// Puts a record after those of the draft. 32; 51 exactly if the bytes can't be a record; else 54
+/// exactly if there is no layout of one record more; else it is there, or 5.
 #[unsafe(no_mangle)]
 pub extern "C" fn vul_server_append_bytes(
     server: &mut ServerHandle,
@@ -215,8 +215,8 @@ pub extern "C" fn vul_server_append_bytes(
 }
 
 /// Publishes the draft. 32; 52 exactly if nothing was edited or appended since the last
-/// publication; else 53 exactly if the version is the last that there is; else it is published,
-/// or 5.
+/// publication; else 53 exactly if the version is the last possible one; else it is published, or
+/// 5.
 #[unsafe(no_mangle)]
 pub extern "C" fn vul_server_publish(server: &mut ServerHandle, alloc: Global) -> u32
     ensures { CallsOn server.old.held.session server.new.held.session result

@@ -1,4 +1,4 @@
-//! What a server answers to a call, as a code.
+//! What a server returns from a call, as a code.
 
 ghost use Rattle.vulandrai_c.specs.ServerCalls as calls;
 

@@ -1,4 +1,4 @@
-//! The codes of a server's answers, as include/vulandrai.h lists them.
+//! The codes of a server's results, as include/vulandrai.h lists them.
 
 ghost use Rattle.std.specs.Prelude.{◌≡◌};
 ghost use Rattle.vulandrai_c.specs.ServerCodes as codes;
@@ -8,7 +8,7 @@ use foreign_sessions::{
     AppendError, EditError, FeedError, PieceFault, PublishError, SessionError, SnapshotFault,
 };
 
-/// The code of a snapshot file that is none, or that there is no memory for.
+/// The code of bytes that are no snapshot file, or for which memory was refused.
 pub fn snapshot_code(fault: SnapshotFault) -> u32
     ensures { result ≡ codes.snapshot_code fault }
 {

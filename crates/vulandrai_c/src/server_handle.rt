@@ -55,7 +55,8 @@ impl ServerPointer {
     }
 }
 
-// Nothing behind the pointer is a thread's own: `proofs/server_handle/ServerPointer/TheSendSync`.
+// Nothing that the pointer leads to is a thread's own:
+// `proofs/server_handle/ServerPointer/TheSendSync`.
 unsafe impl Send for ServerPointer {}
 
 /// What a C program keeps of a server. All its bytes are 0 before `vul_server_open` and after

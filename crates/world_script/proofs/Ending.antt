@@ -33,7 +33,7 @@ early_has_line stop.Read h = absurd h
 early_has_line stop.Write h = absurd h
 early_has_line stop.Memory h = absurd h
 
--- an end for which there was no memory
+-- an end for which memory was refused
 pub early_memory : (e : Stop) (o m n : Option (List ℕ)) (r : Result ℕ RehearseFault) → IsEarly e → Appends o m [] → ReportsEnd stop.Memory m r n → ReportsEnd e o r n
 early_memory e o m n (Ok status) h p (x, inl q) = (early_has_line e h, inr (Appends-trans o m n [] memory_text p q.0, q.1))
 early_memory e o m n (Ok status) h p (x, inr q) = (early_has_line e h, inr (Appends-trans o m n [] memory_text p q.0, q.1))
@@ -85,7 +85,7 @@ reading_cut ro rn wo wn stop.Write s h = absurd s
 reading_cut ro rn wo wn (stop.BadLine m) s h = absurd s
 reading_cut ro rn wo wn (stop.World f) s h = absurd s
 
--- a script's last line, or that there was no memory for it
+-- a script's last line, or that memory for it was refused
 pub before_done : (script : List ℕ) (ro rn wo wm wn : Option (List ℕ)) (e : Stop) (status : ℕ) →
     Consumes ro rn script → IsAtEnd rn → length script ≤ 1048576 → IsBefore (Plays (lines_of script) Start 1) e wo wm →
     ((Appends wm wn (last_text e) × (status ≡ last_status e)) ⊎ (Appends wm wn memory_text × (status ≡ 4))) → Done ro rn wo wn status

@@ -1,4 +1,4 @@
--- What the words of a line stand for.
+-- What the words of a line mean.
 use Rattle.std.proofs.Common.{◌≡◌, ◌≢◌, ◌<◌, ◌↔◌, ◌&&◌, ℕ, suc, List, [], ◌∷◌, length, Bool, true, false, cond, Option, Some, None, IsSome, IfSome, IfOk, SomeIff, Result, Ok, Err, refl, sym, ap, subst, ◌∙◌, ◌==◌, nat_lt}
 use Rattle.std.specs.Char.{is_ascii, is_digit, digit_value}
 use Rattle.std.specs.List.{slice_split, list_all, AllPass}
@@ -71,7 +71,7 @@ number_is word limit (Some x) h =
     ((Decides-ltb (digits_value 10 word) limit).1 h.0.1))
     h.1
 
--- nothing decodes where no 32 bytes were found
+-- nothing decodes if no 32 bytes were found
 pub none_decodes : (word : List ℕ) (d : Result (List ℕ) FromHexError) → decode_of word ≡ d → (AllPass is_hex_digit word → ⊥) → None ≡ result_ok d
 none_decodes word (Ok bytes) e h = absurd (h (decode_of-ok word bytes e).1)
 none_decodes word (Err f) e h = refl

@@ -66,7 +66,7 @@ none_of : (b : Bool) (p : ℕ) → cond b (Some p) None ≡ None → b ≡ false
 none_of true p e = cc
 none_of false p e = refl
 
--- where the first line feed stands
+-- where the first line feed is
 pub found_at : (r : Option ℕ) (p n at : ℕ) → r ≡ cond (nat_lt p n) (Some p) None → r ≡ Some at → (p < n) × (at ≡ p)
 found_at r p n at e h =
     let k : (nat_lt p n ≡ true) × (at ≡ p) = some_of (nat_lt p n) p at (sym e ∙ h) in
@@ -79,7 +79,7 @@ not_below p n e = ltb-false p n e
 pub not_found : (r : Option ℕ) (p n : ℕ) → r ≡ cond (nat_lt p n) (Some p) None → r ≡ None → n ≤ p
 not_found r p n e h = not_below p n (none_of (nat_lt p n) p (sym e ∙ h))
 
--- the first line and what follows it, where a line feed stands at some place
+-- the first line and what follows it, if there is a line feed at some place
 pub cut_at : (s : List ℕ) (at : ℕ) → (position_or_len (λ b. b == 10) s < length s) × (at ≡ position_or_len (λ b. b == 10) s) →
     (lines_of s ≡ take at s ∷ lines_of (take (length s - (at + 1)) (drop (at + 1) s))) × (length (take (length s - (at + 1)) (drop (at + 1) s)) < length s)
 cut_at s at h =
@@ -92,7 +92,7 @@ cut_at s at h =
       subst (λ (r : List ℕ). length r < length s) (sym whole) (omega (arith, len, lt, is)),
     )
 
--- the last line, where none stands
+-- the last line, if there is no line feed
 pub cut_none : (s : List ℕ) → (length s == 0) ≡ false → length s ≤ position_or_len (λ b. b == 10) s →
     (lines_of s ≡ s ∷ lines_of (take (length s - length s) (drop (length s) s))) × (length (take (length s - length s) (drop (length s) s)) < length s)
 cut_none [] e h = cc

@@ -18,8 +18,8 @@ use Rattle.world_script.specs.declared.line.Line.TheVariants as line
 
 -- ---- where lines end
 
--- parts between line feeds as lines: after the last line feed there is one only if something
--- stands
+-- parts between line feeds as lines: after the last line feed there is one only if something is
+-- there
 abbrev pub lines_of_parts : List (List ℕ) → List (List ℕ)
 lines_of_parts [] = []
 lines_of_parts (part ∷ []) = if length part == 0 then [] else part ∷ []
@@ -40,7 +40,7 @@ is_silent (b ∷ bs) = b == 35
 abbrev pub is_numeral : List ℕ → Bool
 is_numeral word = nat_lt 0 (length word) && list_all (λ c. is_digit c 10) word
 
--- the number that a numeral writes, if it is below a limit; leading zeros are as good as none
+-- the number that a numeral writes, if it is below a limit; leading zeros are ignored
 abbrev pub numeral_value : ℕ → List ℕ → Option ℕ
 numeral_value limit word = if is_numeral word && nat_lt (digits_value 10 word) limit then Some (digits_value 10 word) else None
 
@@ -129,6 +129,6 @@ line_of_words (name ∷ a ∷ b ∷ c ∷ d ∷ []) =
     else None
 line_of_words _ = None
 
--- what a line says: ASCII words, parted by one space each; nothing if no line is written so
+-- what a line says: ASCII words, separated by one space each; nothing if no line is written so
 abbrev pub line_of : List ℕ → Option Line
 line_of text = if list_all is_ascii text then line_of_words (slice_split (λ b. b == 32) text) else None

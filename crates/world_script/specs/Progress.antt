@@ -1,4 +1,4 @@
--- What the progress of a script represents, and what its functions answer.
+-- What the progress of a script represents, and what its functions return.
 use Rattle.std.specs.Prelude.{◌≡◌, ◌≢◌, ◌<◌, ◌⊎◌, ◌++◌, ℕ, List, [], length, take, false, Option, Result, Ok, Err}
 use Rattle.std.specs.List.{flat_map}
 use Rattle.std.specs.Io.KnownBytes.{Appends, Consumes}
@@ -116,7 +116,7 @@ pub record IsCutShort (Prints : List ℕ → ℕ → Type 0) (old new : Option (
   pub short : count < length printed
   pub wrote : Appends old new (take count printed)
 
--- what was printed, but for the last line; or, were there no memory for it, but for the line that
+-- what was printed, but for the last line; or, if memory for it was refused, but for the line that
 -- says so
 pub record IsBefore (Prints : List ℕ → ℕ → Type 0) (e : Stop) (old new : Option (List ℕ)) : Type 0 where
   pub said : List ℕ
@@ -148,8 +148,8 @@ HasLastLine stop.Read = ⊥
 HasLastLine stop.Write = ⊥
 HasLastLine _ = Unit {0}
 
--- what is printed of an end: its last line; or that there was no memory for it; after a fault a
--- part of these
+-- what is printed of an end: its last line; or that memory for it was refused; after a fault a part
+-- of these
 abbrev pub ReportsEnd : Stop → Option (List ℕ) → Result ℕ RehearseFault → Option (List ℕ) → Type 0
 ReportsEnd e old (Ok status) new =
     HasLastLine e × ((Appends old new (last_text e) × (status ≡ last_status e)) ⊎ (Appends old new memory_text × (status ≡ 4)))

@@ -132,8 +132,7 @@ named_client _ = 0
 abbrev pub added_outcomes : State → State → List Outcome
 added_outcomes s t = drop (length (outcomes_of s.log)) (outcomes_of t.log)
 
--- a step is made, and each outcome that it adds is printed; or it names a client that there is none
--- of
+-- a step is made, and each outcome that it adds is printed; or it names a client that doesn't exist
 abbrev pub MakesStep : RunningWorld → Step → Move → Type 0
 MakesStep c s move =
     ((has_client s c.clients ≡ true)
@@ -188,7 +187,7 @@ LeadsAtEnd place move = move ≡ Bad
 abbrev pub joined_texts : List (List ℕ) → List ℕ
 joined_texts texts = flat_map (λ text. text) texts
 
--- there was no memory: one line says so, and nothing comes after it
+-- memory was refused: one line says so, and nothing comes after it
 abbrev pub IsOutOfMemory : List ℕ → ℕ → Type 0
 IsOutOfMemory printed status = (printed ≡ memory_text) × (status ≡ 4)
 
@@ -214,8 +213,8 @@ Plays (text ∷ texts) place number printed status =
     IsOutOfMemory printed status
     ⊎ ((move : Move) × LeadsText place text move × FollowsMove number (λ next rest s. Plays texts next (number + 1) rest s) move printed status)
 
--- What a script prints, and the status: it is played, or it is too long. These are its bytes as far
--- as they were read; `left` are those after them.
+-- What a script prints, and the status: it is played, or it is too long. `script` has its bytes as
+-- far as they were read, `left` those after them.
 abbrev pub IsRehearsal : List ℕ → Option (List ℕ) → List ℕ → ℕ → Type 0
 IsRehearsal script left printed status =
     IsOutOfMemory printed status

@@ -58,7 +58,7 @@ outcome_text (Reported client e) = event_text client e
 outcome_text (CallRefused client e) = call_refused_text client (call_fault_name e)
 outcome_text (Failed client e) = about_client client (codes ": failed " ++ (client_fault_name e ++ codes "\n"))
 
--- the line of a step of a client that there is none of
+-- the line of a step of a client that doesn't exist
 abbrev pub no_client_text : ℕ → List ℕ
 no_client_text client = about_client client (codes ": none\n")
 

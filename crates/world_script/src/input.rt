@@ -12,8 +12,8 @@ use std::io::Read;
 /// How many bytes a script may have.
 pub const SCRIPT_LIMIT: usize = 1_048_576;
 
-/// Reads a script to the end of its reader. It is too long as soon as more bytes have come than a
-/// script may have; no further one is read then.
+/// Reads a script to the end of its reader. The script is too long as soon as more bytes have come
+/// than a script may have; no further one is read then.
 pub fn read_script<R: Read>(alloc: Global, reader: &mut R) -> Result<Vec<u8>, Stop>
     ensures whole { IfOk result (λ script. Consumes (R.remaining reader.old)
         (R.remaining reader.new) script.items) }

@@ -19,20 +19,20 @@ use std::str;
 /// The sizes of a world.
 #[derive(Clone, Copy, Debug, PartialEq, Eq)]
 pub struct HeaderSizes {
-    /// 1 if all records have one length, 2 if each has its own and stands in a slot; 129 and 130
+    /// 1 if all records have one length, 2 if each has its own and is in a slot; 129 and 130
     /// likewise, with a wide digit matrix.
     pub form: u8,
     /// How many bits a digit has.
     pub width: u8,
     /// How many bytes a record has.
     pub record_len: u16,
-    /// How many records stand in a column of the digit matrix.
+    /// How many records a column of the digit matrix has.
     pub groups: u16,
     /// How many words a secret has.
     pub dimension: u16,
 }
 
-/// A line of a script, wherever it stands.
+/// A line of a script, whatever its place.
 #[derive(Drop)]
 pub enum Line {
     /// The world's sizes.

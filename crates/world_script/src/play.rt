@@ -30,9 +30,9 @@ pub enum RehearseFault {
 
 /// Reads a script, plays it, and prints what comes of it. Returns the exit status.
 ///
-/// The status is 0 if the script was played to its end. It is 3 if the script is too long,
-/// if a line doesn't fit its place, and if the world can't be opened, and 4 if there was
-/// no memory; the last line printed says so.
+/// The status is 0 if the script was played to its end, 3 if the script is too long, if a line
+/// doesn't fit its place, and if the world can't be opened, and 4 if memory was refused; the last
+/// line printed says so.
 ///
 /// # Errors
 ///
@@ -81,7 +81,7 @@ fn report<W: Write>(alloc: Global, stop: Stop, writer: &mut W) -> Result<u8, Reh
     }
 }
 
-/// Prints the last line of a script that ended early, or that there was no memory for it.
+/// Prints the last line of a script that ended early, or that memory for it was refused.
 fn report_end<W: Write>(alloc: Global, stop: Stop, writer: &mut W) -> Result<u8, RehearseFault>
     requires { IsEarly stop }
     ensures printed { ReportsEnd stop (W.contents writer.old) result (W.contents writer.new) }
@@ -115,7 +115,7 @@ fn say_end<W: Write>(alloc: Global, stop: Stop, writer: &mut W) -> Result<(), St
     }
 }
 
-/// Prints that there was no memory. This takes none.
+/// Prints that memory was refused. No memory is taken for that.
 fn report_memory<W: Write>(writer: &mut W) -> Result<u8, RehearseFault>
     ensures printed { ReportsEnd Stop.Memory (W.contents writer.old) result
         (W.contents writer.new) }

@@ -254,7 +254,7 @@ impl Opening {
 
 /// Appends the bytes that a record has in the digits. A world whose records are longer than any
 /// layout allows is refused when it is opened, and nothing is kept for it: a short script would
-/// else take many times its own length in slots.
+/// otherwise take many times its own length in slots.
 #[tactic(auto, unfolding(pir_schemes::specs::Plans::fits, pir_schemes::specs::Plans::slot))]
 fn keep_record(plan: &Plan, records: &mut Vec<u8>, bytes: &[u8]) -> Result<(), AllocError>
     requires fits { fits plan.now bytes.now ≡ true }
@@ -273,8 +273,8 @@ fn keep_record(plan: &Plan, records: &mut Vec<u8>, bytes: &[u8]) -> Result<(), A
     records.extend_from_slice(bytes)
 }
 
-/// Makes a step, and prints what comes of it. A world that ends is given to `drop`: the prover would
-/// else take apart all that it owns at each way out.
+/// Makes a step, and prints what comes of it. A world that ends is given to `drop`: the prover
+/// would otherwise take apart all that it owns at each way out.
 fn make_step<W: Write>(
     alloc: Global,
     mut world: World<Lanes>,

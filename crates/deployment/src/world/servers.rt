@@ -70,7 +70,7 @@ fn make_folders(disk: &RefCell<SimulatedDisk>, sizes: &Sizes) -> Result<(), Brok
     Ok(())
 }
 
-// Writes version 1. Whether that could be done.
+// Writes version 1. Returns whether that could be done.
 fn write_file(files: &SimulatedFiles<'_>, name: &str, setting: &Setting, bytes: &[u8]) -> bool {
     let Ok(mut file) = OwnFile::to_write(files, name) else {
         return false;

@@ -194,8 +194,8 @@ fn octets_of(address: IpAddr) -> [u8; 16] {
     }
 }
 
-// Whether the process, or the system, has no descriptor left for a connection. Each other error of
-// an accept is that of the connection which was accepted, and the next one may be well.
+// Whether the process, or the system, has no descriptor left for a connection. Any other error of
+// an accept is that of the connection which was accepted, and the next one may succeed.
 fn has_no_descriptor(e: &io::Error) -> bool {
     matches!(e.raw_os_error(), Some(libc::EMFILE | ENFILE))
 }

@@ -10,8 +10,8 @@ impl Service {
     ghost use Rattle.mio_server.specs.Drafting.{EndsDraft, is_over};
 
     // Drops the draft if it ends with the sessions that edited it, and no connection is left of one
-    // that did. This comes before each turn, so that no frame is served on a draft whose editors
-    // are gone.
+    // that did. The check comes before each turn, so that no frame is served on a draft whose
+    // editors are gone.
     pub(super) fn end_draft<S: Saver>(&self, server: SavedServer<S>) -> SavedServer<S>
         ensures ends { EndsDraft self.now.limits.draft self.now.places.connections.items server.core
             result.core }

@@ -11,7 +11,7 @@ impl Service {
     ghost use Rattle.mio_server.specs.Turns.{AreQueued, HasTurn, HasTurnIfMarked};
     ghost use Rattle.mio_server.specs.Turns.{OnlyFlagsChange};
 
-    // Has the connection at a place have its turn, if there is one.
+    // Lets the connection at a place have its turn, if there is one.
     pub(super) fn queue(&mut self, place: usize, readable: bool, writable: bool)
         ensures places { self.new.places.connections.items ≡
             slice_set self.old.places.connections.items place
@@ -122,7 +122,7 @@ impl Service {
         }
     }
 
-    // Has the connection at a place have another turn, if it has more to do.
+    // Lets the connection at a place have another turn, if it has more to do.
     pub(super) fn queue_again(&mut self, place: usize, more: bool)
         ensures flags { OnlyFlagsChange self.old.places.connections.items
             self.new.places.connections.items }

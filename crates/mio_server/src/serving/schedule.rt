@@ -14,7 +14,7 @@ pub struct Schedule {
     pub ready: Vec<usize>,
     /// Those that have it now.
     pub turns: Vec<usize>,
-    /// There was no memory to note a place: each one has a turn.
+    /// Memory to note a place was refused: each one has a turn.
     pub visits_all: bool,
     /// When all connections are looked at for what is due.
     pub scan_at: u64,

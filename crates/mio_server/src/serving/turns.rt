@@ -109,7 +109,7 @@ impl Service {
         Ok(server)
     }
 
-    // Gives the connection at a place a turn, if there is one, and has it have another if it has
+    // Gives the connection at a place a turn, if there is one, and lets it have another if it has
     // more to do at once.
     pub(super) fn visit<S: Saver + Drop>(
         &mut self,

@@ -19,8 +19,8 @@ const MOST_HEAD: usize = 4_096;
 /// How many milliseconds a visitor may stay.
 const STAY: u64 = 5_000;
 
-/// How many milliseconds one is read from whose response is written, so that the response is not
-/// lost with what was not read.
+/// How many milliseconds a visitor whose response is written is still read from, so that the
+/// response is not lost with what was not read.
 const LEAVE: u64 = 500;
 
 /// What a call on a socket came to.
@@ -130,7 +130,7 @@ impl Visitor {
         if busy { 0 } else { self.until }
     }
 
-    /// Reads once, where there is something to be read. Returns whether it stays.
+    /// Reads once, if there is something to be read. Returns whether it stays.
     pub fn read(&mut self, now: u64) -> bool
         ensures late { self.old.until ≤ now → result ≡ false }
         ensures bound { self.new.until ≡ self.old.until }
@@ -178,7 +178,7 @@ impl Visitor {
         Call::of(stream.read(&mut [0u8; MOST_HEAD]))
     }
 
-    /// Makes the response, where the request is whole. Returns whether it stays.
+    /// Makes the response, if the request is whole. Returns whether it stays.
     pub fn answer(&mut self, alloc: Global, figures: &Figures) -> bool
         ensures { self.new.until ≡ self.old.until }
     {
@@ -195,8 +195,8 @@ impl Visitor {
         }
     }
 
-    /// Writes once, where there is a response. Returns whether it stays: its time is over soon
-    /// after the whole response was written.
+    /// Writes once, if there is a response. Returns whether it stays: its time is over soon after
+    /// the whole response was written.
     pub fn write(&mut self, now: u64) -> bool
         ensures late { self.old.until ≤ now → result ≡ false }
         ensures bound { self.new.until ≤ self.old.until }

@@ -9,7 +9,7 @@ use std::io;
 use std::io::ErrorKind;
 
 impl Machine {
-    /// What is said of what stands at a path.
+    /// What is said of what is at a path.
     pub(crate) fn metadata_at(&mut self, path: &str) -> io::Result<Metadata> {
         self.begin()?;
         self.risk(self.faults.opens_fail)?;

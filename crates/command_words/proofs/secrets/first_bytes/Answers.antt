@@ -6,7 +6,7 @@ use borrow.Rule.Slice.PartMut.{put_mid, post_of}
 use lib.Seq.{take-add, take-append-le}
 use Rattle.command_words.proofs.secrets.first_bytes.Goals as goal
 
--- what stood in prefix, and what was read after it
+-- what was in prefix, and what was read after it
 filled : (a k n : ℕ) (xs ys : List ℕ) → a ≤ length xs → n ≤ length ys → take a xs ++ take n ys ≡ take (a + n) (put_mid a k xs ys)
 filled a k n xs ys within fits =
     let after = post_of a k xs in

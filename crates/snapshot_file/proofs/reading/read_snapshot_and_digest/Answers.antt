@@ -8,7 +8,7 @@ use Rattle.snapshot_file.specs.Snapshots.{header_bytes}
 use Rattle.snapshot_file.proofs.Readings.{answers_fault}
 use Rattle.snapshot_file.proofs.reading.read_snapshot_and_digest.Goals as goal
 
--- what is answered after a header may be answered to the whole input
+-- what is returned after a header may be returned for the whole input
 refused_after : {A : Type 0} (r : Result A SnapshotFault) (before middle after : Option (List ℕ)) (header : List ℕ) → Consumes before middle header →
     IfErr r (λ fault. (read : List ℕ) × Consumes middle after read × StopsReadingAt fault (header ++ read) after) →
     IfErr r (λ fault. IfSome before (λ bytes. MayRefuse fault bytes))

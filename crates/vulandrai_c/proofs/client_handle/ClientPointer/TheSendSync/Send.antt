@@ -1,4 +1,4 @@
--- A session behind a `ClientPointer` says the same to every thread.
+-- The session of a `ClientPointer` says the same to every thread.
 use mir.Raw.{raw}
 use base.Fraction.{full_share}
 use base.Shift.{Keyless}
