@@ -46,17 +46,17 @@ pub const MAX_PART_WORDS: usize = 4_128_768;
 #[derive(Clone, Copy, Debug, PartialEq, Eq, Error)]
 pub enum LayoutError {
     /// Digits of fewer than 6 bits or more than 10, or of more than 9 in a wide layout.
-    #[error("a digit has 6 to 10 bits")]
+    #[error("a digit has 6 to 10 bits, in a wide matrix 6 to 9")]
     BadWidth,
     /// Records of no bytes, or of more than [`MAX_RECORD_LEN`].
     #[error("a record has 1 to 256 bytes")]
     BadRecord,
     /// Columns of no record, or of more than [`MAX_ROWS`] digits ([`WIDE_SIDE`] in a wide layout);
     /// or more than [`MAX_PART_WORDS`] words in the parts of a query.
-    #[error("a column holds at least one record and at most 4096 digits")]
+    #[error("a column holds at least one record and at most 4096 digits, in a wide matrix 32768")]
     BadGroups,
     /// No record, or more than [`MAX_COLS`] columns of records ([`WIDE_SIDE`] in a wide layout).
-    #[error("there are 1 to 4096 columns of records")]
+    #[error("there are 1 to 4096 columns of records, in a wide matrix at most 32768")]
     BadCount,
 }
 

@@ -52,15 +52,15 @@ fn layouts_at_their_limits(rt: HostRuntime) {
 #[test]
 fn faults_are_printed(rt: HostRuntime) -> Result<(), Fail> {
     for (fault, text) in [
-        (LayoutError::BadWidth, "a digit has 6 to 10 bits"),
+        (LayoutError::BadWidth, "a digit has 6 to 10 bits, in a wide matrix 6 to 9"),
         (LayoutError::BadRecord, "a record has 1 to 256 bytes"),
         (
             LayoutError::BadGroups,
-            "a column holds at least one record and at most 4096 digits",
+            "a column holds at least one record and at most 4096 digits, in a wide matrix 32768",
         ),
         (
             LayoutError::BadCount,
-            "there are 1 to 4096 columns of records",
+            "there are 1 to 4096 columns of records, in a wide matrix at most 32768",
         ),
     ] {
         assert_eq!(rt; format!(in rt.alloc(); "{fault}")?.as_str(), text);
