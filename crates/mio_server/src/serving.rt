@@ -344,11 +344,17 @@ impl Service {
         // No service has so many rounds: the bound is there so that the loop has an end.
         for _ in 0..u64::MAX {
             server = self.round(rt, events, wait, server)?;
-            match self.end_round(rt, events, status, &server)? {
-                Some(next) => wait = next,
-                None => break,
+            match self.end_round(rt, events, status, &server) {
+                Ok(Some(next)) => wait = next,
+                Ok(None) => break,
+                Err(fault) => {
+                    // A call keeps the prover from taking apart here all that a server owns.
+                    drop(server);
+                    return Err(fault);
+                }
             }
         }
+        drop(server);
         Ok(())
     }
 
@@ -462,10 +468,19 @@ impl Service {
         ensures idle { OnOk result ((i : ℕ) → HasNoIdle self.new.places.connections.items i
             self.new.schedule.scanned self.new.limits.idle) }
     {
-        let now = await_events(rt, &mut self.poll, self.start, events, wait)?;
+        let now = match await_events(rt, &mut self.poll, self.start, events, wait) {
+            Ok(now) => now,
+            Err(fault) => {
+                drop(server);
+                return Err(fault);
+            }
+        };
         server.counters.polled = self.micros(rt);
         self.note_all(events);
-        self.accept_all(rt, &mut server)?;
+        if let Err(fault) = self.accept_all(rt, &mut server) {
+            drop(server);
+            return Err(fault);
+        }
         self.note_due(now);
         self.take_turns(rt, server)
     }

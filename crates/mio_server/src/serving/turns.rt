@@ -175,17 +175,25 @@ impl Service {
         if self.places.is_free(place) {
             return Ok((server, false));
         }
-        let now = self.now_of_turn(rt)?;
+        let now = match self.now_of_turn(rt) {
+            Ok(now) => now,
+            Err(fault) => {
+                // A call keeps the prover from taking apart here all that a server owns.
+                drop(server);
+                return Err(fault);
+            }
+        };
         let Some(mut connection) = self.places.take(place) else {
             return Ok((server, false));
         };
-        let (mut server, outcome) = connection.take_counted_turn(
-            rt,
-            self.start,
-            now,
-            server,
-            &mut self.buffer,
-        )?;
+        let taken = connection.take_counted_turn(rt, self.start, now, server, &mut self.buffer);
+        let (mut server, outcome) = match taken {
+            Ok(both) => both,
+            Err(fault) => {
+                drop(connection);
+                return Err(fault);
+            }
+        };
         self.log.note_turn(
             rt,
             connection.id,

@@ -43,7 +43,7 @@ returns-clause-idle g c =
     c.accept_all.ensures.turns c.accept_all.ensures.comes (λ k. c.note_all.ensures.marked k (c.requires.marked k)) i) in
     let a = c.args.self.now in
     let e = c.take_turns.new.self in
-    let now = c.in_ok-now.now in
+    let now = c.in-Ok.now in
     let came : (i : ℕ) → IsMarkedIfIdle x.places.connections.items i a.schedule.scanned a.limits.idle =
     comes_idle n.places.connections.items x.places.connections.items x.schedule.visits_all x.schedule.ready.items a.schedule.scanned a.limits.idle c.accept_all.ensures.comes
     (λ i. flags_active a.places.connections.items n.places.connections.items a.schedule.scanned a.limits.idle i c.note_all.ensures.flags (c.requires.idle i)) in

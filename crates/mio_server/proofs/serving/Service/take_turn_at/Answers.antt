@@ -26,43 +26,43 @@ pub returns-clause-noted : goal.returns-clause-noted
 returns-clause-noted g c =
     subst (λ n. AreNoted c.finish_turn-more.new.self.places.connections.items c.finish_turn-more.new.server.core n) (sym c.finish_turn-more.ensures.number)
     (concluded_noted c.end_turn-outcome.result c.args.place c.in-Some.connection c.end_turn-outcome.new.self c.args.self.now.places.connections.items
-    c.take.new.self.connections.items c.args.server.core c.in_ok-server.server.core c.finish_turn-more.new.self.places.connections.items
+    c.take.new.self.connections.items c.args.server.core c.in-Ok-taken.both.0.core c.finish_turn-more.new.self.places.connections.items
     c.finish_turn-more.new.server.core c.in-Some.ensures.places c.finish_turn-more.ensures.goes_on c.finish_turn-more.ensures.over
-    (c.end_turn-outcome.ensures.id ∙ c.in_ok-server.ensures.id) c.in_ok-server.ensures.others c.args.self.now.next_id
+    (c.end_turn-outcome.ensures.id ∙ c.in-Ok-taken.ensures.id) c.in-Ok-taken.ensures.others c.args.self.now.next_id
     (is_within c.args.self.now.places.connections.items c.args.place c.in-Some.connection (sym c.in-Some.ensures.taken))
     (sym c.in-Some.ensures.taken) c.requires.noted c.end_turn-outcome.ensures.held)
 
 pub returns-clause-others : goal.returns-clause-others
 returns-clause-others g c =
     concluded_others c.end_turn-outcome.result c.args.place c.in-Some.connection c.end_turn-outcome.new.self c.args.self.now.places.connections.items
-    c.take.new.self.connections.items c.args.server.core c.in_ok-server.server.core c.finish_turn-more.new.self.places.connections.items
+    c.take.new.self.connections.items c.args.server.core c.in-Ok-taken.both.0.core c.finish_turn-more.new.self.places.connections.items
     c.finish_turn-more.new.server.core c.in-Some.ensures.places c.finish_turn-more.ensures.goes_on c.finish_turn-more.ensures.over
-    (c.end_turn-outcome.ensures.id ∙ c.in_ok-server.ensures.id) c.in_ok-server.ensures.others
+    (c.end_turn-outcome.ensures.id ∙ c.in-Ok-taken.ensures.id) c.in-Ok-taken.ensures.others
 
 pub returns-clause-sessions : goal.returns-clause-sessions
 returns-clause-sessions g c =
     subst (λ (o : Option Connection). IfSome o (λ k. SessionsStayOrGo k.id c.args.server.core c.finish_turn-more.new.server.core)) c.in-Some.ensures.taken
     (concluded_sessions c.end_turn-outcome.result c.args.place c.in-Some.connection c.end_turn-outcome.new.self c.args.self.now.places.connections.items
-    c.take.new.self.connections.items c.args.server.core c.in_ok-server.server.core c.finish_turn-more.new.self.places.connections.items
+    c.take.new.self.connections.items c.args.server.core c.in-Ok-taken.both.0.core c.finish_turn-more.new.self.places.connections.items
     c.finish_turn-more.new.server.core c.in-Some.ensures.places c.finish_turn-more.ensures.goes_on c.finish_turn-more.ensures.over
-    (c.end_turn-outcome.ensures.id ∙ c.in_ok-server.ensures.id) c.in_ok-server.ensures.others)
+    (c.end_turn-outcome.ensures.id ∙ c.in-Ok-taken.ensures.id) c.in-Ok-taken.ensures.others)
 
 pub returns-clause-idle : goal.returns-clause-idle
 returns-clause-idle g c =
     concluded_holds (λ k. HasBeenIdle k c.args.self.now.schedule.scanned c.args.self.now.limits.idle → ⊥) c.end_turn-outcome.result c.args.place
-    c.end_turn-outcome.new.self c.args.self.now.places.connections.items c.take.new.self.connections.items c.in_ok-server.server.core
+    c.end_turn-outcome.new.self c.args.self.now.places.connections.items c.take.new.self.connections.items c.in-Ok-taken.both.0.core
     c.finish_turn-more.new.self.places.connections.items c.finish_turn-more.new.server.core c.in-Some.ensures.places
     (is_within c.args.self.now.places.connections.items c.args.place c.in-Some.connection (sym c.in-Some.ensures.taken))
     c.finish_turn-more.ensures.goes_on c.finish_turn-more.ensures.over
-    (λ on was. c.end_turn-outcome.ensures.active on (stays_idle c.end_turn-outcome.new.self c.args.self.now.schedule.scanned c.in_ok-now.now
-    c.args.self.now.limits.idle c.in_ok-now.ensures was))
+    (λ on was. c.end_turn-outcome.ensures.active on (stays_idle c.end_turn-outcome.new.self c.args.self.now.schedule.scanned c.in-Ok.now
+    c.args.self.now.limits.idle c.in-Ok.ensures was))
 
 pub returns-clause-unmarked : goal.returns-clause-unmarked
 returns-clause-unmarked g c =
     concluded_holds (λ k. k.queued ≡ false) c.end_turn-outcome.result c.args.place c.end_turn-outcome.new.self c.args.self.now.places.connections.items
-    c.take.new.self.connections.items c.in_ok-server.server.core c.finish_turn-more.new.self.places.connections.items c.finish_turn-more.new.server.core
+    c.take.new.self.connections.items c.in-Ok-taken.both.0.core c.finish_turn-more.new.self.places.connections.items c.finish_turn-more.new.server.core
     c.in-Some.ensures.places (is_within c.args.self.now.places.connections.items c.args.place c.in-Some.connection (sym c.in-Some.ensures.taken))
-    c.finish_turn-more.ensures.goes_on c.finish_turn-more.ensures.over (λ _. c.end_turn-outcome.ensures.queued ∙ c.in_ok-server.ensures.queued)
+    c.finish_turn-more.ensures.goes_on c.finish_turn-more.ensures.over (λ _. c.end_turn-outcome.ensures.queued ∙ c.in-Ok-taken.ensures.queued)
 
 pub returns-clause-limits : goal.returns-clause-limits
 returns-clause-limits g c = c.finish_turn-more.ensures.limits
