@@ -42,28 +42,72 @@ pub fn fetch<'a>(
     let Some(mut partial) = partial_in(folder, known, scheme)? else {
         return Ok(None);
     };
+    match fetch_rest(rt, server, &mut partial, says) {
+        Ok(Rest::Fetched) => finished(partial),
+        Ok(Rest::Stays) => Ok(None),
+        Ok(Rest::Unwritten) => {
+            partial.discard();
+            Ok(None)
+        }
+        Err(fault) => Err(fault),
+    }
+}
+
+// What became of the parts that were not there.
+enum Rest {
+    // All of them are there now.
+    Fetched,
+    // The server has another version by now, or refuses a part.
+    Stays,
+    // A part could not be written.
+    Unwritten,
+}
+
+// Fetches the parts that are not there, one after another.
+fn fetch_rest(
+    rt: &HostRuntime,
+    server: &Server,
+    partial: &mut PartialFile<'_>,
+    says: bool,
+) -> Result<Rest, CommandError> {
     let Ok(mut buffer) = vec![in rt.alloc(); 0u8; 4 * PART_WORDS] else {
         return Err(MEMORY);
     };
     let mut progress = Progress::new(rt, says, partial.taken(), partial.parts());
     for _ in partial.taken()..partial.parts() {
-        let Some(len) = partial.next_len() else {
-            return Ok(None);
-        };
-        if len > buffer.len() {
-            return Ok(None);
+        match fetch_next(server, partial, &mut buffer)? {
+            Rest::Fetched => progress.say(partial.taken()),
+            other => return Ok(other),
         }
-        let (room, _) = buffer.split_at_mut(len);
-        match ask_for_part(server, &partial, room)? {
-            Reply::Part => {}
-            Reply::Other => return Ok(None),
-        }
-        if partial.add(room).is_err() {
-            partial.discard();
-            return Ok(None);
-        }
-        progress.say(partial.taken());
     }
+    Ok(Rest::Fetched)
+}
+
+// Fetches the next part.
+fn fetch_next(
+    server: &Server,
+    partial: &mut PartialFile<'_>,
+    buffer: &mut [u8],
+) -> Result<Rest, CommandError> {
+    let Some(len) = partial.next_len() else {
+        return Ok(Rest::Stays);
+    };
+    if len > buffer.len() {
+        return Ok(Rest::Stays);
+    }
+    let (room, _) = buffer.split_at_mut(len);
+    match ask_for_part(server, partial, room)? {
+        Reply::Part => {}
+        Reply::Other => return Ok(Rest::Stays),
+    }
+    match partial.add(room) {
+        Ok(()) => Ok(Rest::Fetched),
+        Err(_) => Ok(Rest::Unwritten),
+    }
+}
+
+// The hint, once all parts are there.
+fn finished(partial: PartialFile<'_>) -> Result<Option<Fetched<'_>>, CommandError> {
     match partial.finish() {
         Ok(fetched) => Ok(Some(fetched)),
         Err(HintError::Memory) => Err(MEMORY),
