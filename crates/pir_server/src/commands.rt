@@ -67,13 +67,13 @@ fn run_task(rt: &HostRuntime, task: Task<'_>) -> Result<(), Failed> {
     }
 }
 
-// Makes a snapshot file, and returns how many records it has and its version.
+// Makes a snapshot file, and prints how many records it has and its version.
 fn make_file(rt: &HostRuntime, making: &Making<'_>) -> Result<(), Failed> {
     let count = make(rt, making)?;
     printed(rt, println!(rt; "made {count} 1"))
 }
 
-// Moves the records of a snapshot file into slots, and returns how many there are and their
+// Moves the records of a snapshot file into slots, and prints how many there are and their
 // version.
 fn migrate_file(rt: &HostRuntime, migrating: &Migrating<'_>) -> Result<(), Failed> {
     let mut out = match OwnFile::to_write(rt, migrating.out) {
@@ -92,7 +92,7 @@ fn migrate_file(rt: &HostRuntime, migrating: &Migrating<'_>) -> Result<(), Faile
     printed(rt, println!(rt; "migrated {count} {version}"))
 }
 
-// Puts the records of a snapshot file into a wide store, and returns how many there are and their
+// Puts the records of a snapshot file into a wide store, and prints how many there are and their
 // version.
 fn widen_file(rt: &HostRuntime, widening: &Widening<'_>) -> Result<(), Failed> {
     let seed = widening
