@@ -1,6 +1,6 @@
 -- The shapes of what goes over a client's link, read off the log: the frames that it sends, the
 -- server's replies to them, and why its calls are refused.
-use Rattle.std.specs.Prelude.{◌≡◌, ◌≢◌, ◌==◌, ℕ, List, [], ◌∷◌, Some, false, cond, slice_get}
+use Rattle.std.specs.Prelude.{◌≡◌, ◌≢◌, ◌==◌, ℕ, List, [], ◌∷◌, Option, Some, false, cond, slice_get}
 use Rattle.std.specs.List.{flat_map, AllByRecursion}
 use Rattle.frame_codec.specs.declared.refusal.Refusal.TheVariants.{Memory}
 use Rattle.frame_codec.specs.Refusals.{refused}
@@ -28,14 +28,14 @@ abbrev pub reply_shape : ℕ → Entry → List FrameShape
 reply_shape k (Served j f now (Some reply)) = cond (j == k) (shape_of_frame reply ∷ []) []
 reply_shape k _ = []
 
--- why an entry's call was refused, if client k made it
-abbrev pub call_refusal : ℕ → Entry → List CallFault
-call_refusal k (Called j want (Some fault)) = cond (j == k) (fault ∷ []) []
+-- whether an entry's call was refused, and why, if client k made it
+abbrev pub call_refusal : ℕ → Entry → List (Option CallFault)
+call_refusal k (Called j want why) = cond (j == k) (why ∷ []) []
 call_refusal k _ = []
 
 -- Two logs say that over each link the same shapes went, in the frames that client k sent and in
--- the replies to it, each way in the same order, and that the same calls were refused: as many, for
--- the same causes in the same order.
+-- the replies to it, each way in the same order, and that of the calls of client k, in their order,
+-- the same were refused, for the same causes.
 pub record HaveEqualShapes (log other : List Entry) : Type 0 where
   pub sent : (k : ℕ) → flat_map (sent_shape k) log ≡ flat_map (sent_shape k) other
   pub replies : (k : ℕ) → flat_map (reply_shape k) log ≡ flat_map (reply_shape k) other
@@ -67,8 +67,8 @@ AskIsWithin s (Ask k i) other = other ≢ Ask k i → (l : Link) → slice_get s
 AskIsWithin s _ other = Unit {0}
 
 -- Of some steps, one after another, no ask is refused for its index whose index differs from that
--- of the other step in its place; the server has memory. An ask that is the same in both lists is
--- any, also one of no record, or of a client that was not let in.
+-- of the other step in its place; the server has memory. An ask that is the same in both lists may
+-- be any, even one of no record, or of a client that was not let in.
 abbrev pub AsksAreWithin : Setting → State → List Step → List Step → Type 0
 AsksAreWithin x s (step ∷ steps) (other ∷ others) = AskIsWithin s step other × AsksAreWithin x (state_after x false s step) steps others
 AsksAreWithin x s _ _ = Unit {0}
@@ -83,9 +83,9 @@ pub record IsPlainRun (x : Setting) (s : State) (steps others : List Step) (t : 
 -- ---- the law
 
 -- In two runs from one opening, whose steps differ in the indices of asks alone, as many frames go
--- each way over each link, in the same order, of the same kinds and lengths, and the same calls are
--- refused for the same causes. In both no reply is refused for lack of memory, and none of the asks
--- whose indices differ is refused for its index.
+-- each way over each link, in the same order, of the same kinds and lengths, and of each client's
+-- calls the same are refused, for the same causes. In both no reply is refused for lack of memory,
+-- and none of the asks whose indices differ is refused for its index.
 abbrev pub IndicesChangeNoShape : Type 0
 IndicesChangeNoShape = (h : Header) (records : List ℕ) (seeds : List (List ℕ)) (steps others : List Step) (last last2 : State) →
     IsOpening h records → AreStepsLike steps others →
@@ -93,8 +93,9 @@ IndicesChangeNoShape = (h : Header) (records : List ℕ) (seeds : List (List ℕ
     HaveEqualShapes last.log last2.log
 
 -- Each run from `start` whose steps differ from these in the indices of asks alone puts the same
--- shapes on each link as the run of these that led to `s`, and refuses the same calls, if in both
--- no reply is refused for lack of memory, and no ask whose index differs is refused for its index.
+-- shapes on each link as the run of these that led to `s`, and refuses of each client's calls the
+-- same, if in both no reply is refused for lack of memory, and no ask whose index differs is refused
+-- for its index.
 abbrev pub HidesIndices : Setting → State → List Step → State → Type 0
 HidesIndices x start steps s = (others : List Step) (last : State) → AreStepsLike steps others →
     AllByRecursion HadMemory s.log → AsksAreWithin x start steps others → IsPlainRun x start others steps last → HaveEqualShapes s.log last.log

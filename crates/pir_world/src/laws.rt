@@ -7,7 +7,7 @@ ghost use Rattle.pir_world.specs.Shapes.{IndicesChangeNoShape};
 
 /// In every run of every list of steps, for all seeds: an answered retrieval whose noise sums stay
 /// below half of delta gives its record's bytes in the version that its hint names, a query is
-/// refused as stale exactly where it names another version than the current one, and no client
+/// refused as stale exactly when it names another version than the current one, and no client
 /// fails. Each query sent is that of an accepted ask, with a number of its own, and each reply that
 /// ends a retrieval was served to its query.
 pub fn every_run_is_right()
@@ -27,9 +27,9 @@ pub fn answers_are_fresh()
 }
 
 /// What goes over the links, each frame by its kind and its length, is the same in two runs from
-/// one opening whose steps differ in the indices of asks alone, and the same calls are refused. In
-/// both none of the asks whose indices differ is refused for its index, and no reply is refused
-/// because the server is out of memory.
+/// one opening whose steps differ in the indices of asks alone, and of each client's calls the same
+/// are refused. In both none of the asks whose indices differ is refused for its index, and no
+/// reply is refused because the server is out of memory.
 pub fn indices_change_no_shape()
     ensures { IndicesChangeNoShape }
 {

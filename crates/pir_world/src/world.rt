@@ -109,14 +109,20 @@ impl<K: Kernel> World<K> {
     /// answer is older than a version that had been reported to anybody when its query was served.
     ///
     /// Steps that differ from these in the indices of asks alone put the same shapes on each link:
-    /// as many frames each way, in the same order, of the same kinds and lengths; and the same
-    /// calls are refused, for the same causes. Of both it is asked that no reply was refused
-    /// because the server is out of memory, and of the asks whose index differs that none is
-    /// refused for its index. An ask that is the same in both may be of no record, or come too
-    /// early: it is refused alike, and sends nothing.
+    /// as many frames each way, in the same order, of the same kinds and lengths; and of each
+    /// client's calls the same are refused, for the same causes. Of both it is asked that no reply
+    /// was refused because the server is out of memory, and of the asks whose index differs that
+    /// none is refused for its index. An ask that is the same in both may be of no record, or come
+    /// too early: it is refused alike, and sends nothing.
+    ///
+    /// Clause `right` needs nothing but the steps to be believed; clause `run` says the same of a
+    /// run whose states and waiting bytes are the world's own.
     pub fn outcomes(&self) -> &[Outcome]
         ensures kept { result.now ≡ self.now.outcomes }
-        ensures run { (s : State) × IsRunOf self.now s × (result.now ≡ outcomes_of s.log) }
+        ensures run { (s : State) × IsRunOf self.now s × (result.now ≡ outcomes_of s.log) ×
+            Headline (setting_in self.now.header) self.now.seeds s × IsFreshLog s.log ×
+            HidesIndices (setting_in self.now.header)
+            (opening self.now.header self.now.records self.now.seeds) self.now.steps s }
         ensures right { (s : State) × IsRunFrom self.now.header self.now.records self.now.seeds
             self.now.steps s × (result.now ≡ outcomes_of s.log) ×
             Headline (setting_in self.now.header) self.now.seeds s × IsFreshLog s.log ×
