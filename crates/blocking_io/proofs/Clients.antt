@@ -43,14 +43,14 @@ either c false t u a b = b
 
 sound_welcome : (call : Call) (c : ClientState) (plan : Plan) (count v : ℕ) → IsSound c (takes_welcome call c plan count v)
 sound_welcome Idle c plan count v = bad c client.BadReply
-sound_welcome (Hello key) c plan count v =
+sound_welcome Hello c plan count v =
     either c (is_accepted_welcome c.profile plan count v) _ (faulty c client.BadWelcome) (λ _. (refl, refl, refl)) (bad c client.BadWelcome)
 sound_welcome (Sync s w p) c plan count v = bad c client.BadReply
 sound_welcome (Delta since) c plan count v = bad c client.BadReply
 sound_welcome (Changes since) c plan count v = bad c client.BadReply
-sound_welcome (Ask i s w k) c plan count v = bad c client.BadReply
-sound_welcome (Edit i b) c plan count v = bad c client.BadReply
-sound_welcome (Append b) c plan count v = bad c client.BadReply
+sound_welcome (Ask i w k) c plan count v = bad c client.BadReply
+sound_welcome Edit c plan count v = bad c client.BadReply
+sound_welcome Append c plan count v = bad c client.BadReply
 sound_welcome Publish c plan count v = bad c client.BadReply
 
 sound_asked : (known : Option ServerInfo) (s : Scheme) (c : ClientState) (asked next scheme version part : ℕ) (words : List ℕ) →
@@ -63,13 +63,13 @@ sound_asked (Some k) s c asked next scheme version part words =
 
 sound_part : (call : Call) (c : ClientState) (scheme version part : ℕ) (words : List ℕ) → IsSound c (takes_part call c scheme version part words)
 sound_part Idle c scheme version part words = bad c client.BadReply
-sound_part (Hello key) c scheme version part words = bad c client.BadReply
+sound_part Hello c scheme version part words = bad c client.BadReply
 sound_part (Sync s v p) c scheme version part words = sound_asked c.known s c v p scheme version part words
 sound_part (Delta since) c scheme version part words = bad c client.BadReply
 sound_part (Changes since) c scheme version part words = bad c client.BadReply
-sound_part (Ask i s v k) c scheme version part words = bad c client.BadReply
-sound_part (Edit i b) c scheme version part words = bad c client.BadReply
-sound_part (Append b) c scheme version part words = bad c client.BadReply
+sound_part (Ask i v k) c scheme version part words = bad c client.BadReply
+sound_part Edit c scheme version part words = bad c client.BadReply
+sound_part Append c scheme version part words = bad c client.BadReply
 sound_part Publish c scheme version part words = bad c client.BadReply
 
 sound_answered : (known : Option ServerInfo) (hint : Option Hint) (c : ClientState) (i asked number scheme version : ℕ) (words : List ℕ) →
@@ -80,13 +80,13 @@ sound_answered (Some k) (Some h) c i asked number scheme version words = either 
 
 sound_answer : (call : Call) (c : ClientState) (scheme version : ℕ) (words : List ℕ) → IsSound c (takes_answer call c scheme version words)
 sound_answer Idle c scheme version words = bad c client.BadReply
-sound_answer (Hello key) c scheme version words = bad c client.BadReply
+sound_answer Hello c scheme version words = bad c client.BadReply
 sound_answer (Sync s v p) c scheme version words = bad c client.BadReply
 sound_answer (Delta since) c scheme version words = bad c client.BadReply
 sound_answer (Changes since) c scheme version words = bad c client.BadReply
-sound_answer (Ask i s v k) c scheme version words = sound_answered c.known c.hint c i v k scheme version words
-sound_answer (Edit i b) c scheme version words = bad c client.BadReply
-sound_answer (Append b) c scheme version words = bad c client.BadReply
+sound_answer (Ask i v k) c scheme version words = sound_answered c.known c.hint c i v k scheme version words
+sound_answer Edit c scheme version words = bad c client.BadReply
+sound_answer Append c scheme version words = bad c client.BadReply
 sound_answer Publish c scheme version words = bad c client.BadReply
 
 sound_staled : (known : Option ServerInfo) (after c : ClientState) (asked version count : ℕ) → (after.failed ≡ c.failed) × (after.number ≡ c.number) × (after.profile ≡ c.profile) →
@@ -96,13 +96,13 @@ sound_staled (Some k) after c asked version count e = either c _ _ (faulty c cli
 
 sound_stale : (call : Call) (c : ClientState) (version count : ℕ) → IsSound c (takes_stale call c version count)
 sound_stale Idle c version count = bad c client.BadReply
-sound_stale (Hello key) c version count = bad c client.BadReply
+sound_stale Hello c version count = bad c client.BadReply
 sound_stale (Sync s v p) c version count = sound_staled c.known (record c { parts = [] }) c v version count (refl, refl, refl)
 sound_stale (Delta since) c version count = bad c client.BadReply
 sound_stale (Changes since) c version count = bad c client.BadReply
-sound_stale (Ask i s v k) c version count = sound_staled c.known c c v version count (refl, refl, refl)
-sound_stale (Edit i b) c version count = bad c client.BadReply
-sound_stale (Append b) c version count = bad c client.BadReply
+sound_stale (Ask i v k) c version count = sound_staled c.known c c v version count (refl, refl, refl)
+sound_stale Edit c version count = bad c client.BadReply
+sound_stale Append c version count = bad c client.BadReply
 sound_stale Publish c version count = bad c client.BadReply
 
 sound_moved : (known : Option ServerInfo) (hint : Option Hint) (c : ClientState) (asked since now count : ℕ) (rows : RowList) →
@@ -113,13 +113,13 @@ sound_moved (Some k) (Some h) c asked since now count rows = either c _ _ (fault
 
 sound_delta : (call : Call) (c : ClientState) (since now count : ℕ) (rows : RowList) → IsSound c (takes_delta call c since now count rows)
 sound_delta Idle c since now count rows = bad c client.BadReply
-sound_delta (Hello key) c since now count rows = bad c client.BadReply
+sound_delta Hello c since now count rows = bad c client.BadReply
 sound_delta (Sync s v p) c since now count rows = bad c client.BadReply
 sound_delta (Delta asked) c since now count rows = sound_moved c.known c.hint c asked since now count rows
 sound_delta (Changes asked) c since now count rows = bad c client.BadReply
-sound_delta (Ask i s v k) c since now count rows = bad c client.BadReply
-sound_delta (Edit i b) c since now count rows = bad c client.BadReply
-sound_delta (Append b) c since now count rows = bad c client.BadReply
+sound_delta (Ask i v k) c since now count rows = bad c client.BadReply
+sound_delta Edit c since now count rows = bad c client.BadReply
+sound_delta Append c since now count rows = bad c client.BadReply
 sound_delta Publish c since now count rows = bad c client.BadReply
 
 sound_changed : (known : Option ServerInfo) (hint : Option Hint) (c : ClientState) (asked since now count : ℕ) (entries : List ℕ) →
@@ -130,13 +130,13 @@ sound_changed (Some k) (Some h) c asked since now count entries = either c _ _ (
 
 sound_changes : (call : Call) (c : ClientState) (since now count : ℕ) (entries : List ℕ) → IsSound c (takes_changes call c since now count entries)
 sound_changes Idle c since now count entries = bad c client.BadReply
-sound_changes (Hello key) c since now count entries = bad c client.BadReply
+sound_changes Hello c since now count entries = bad c client.BadReply
 sound_changes (Sync s v p) c since now count entries = bad c client.BadReply
 sound_changes (Delta asked) c since now count entries = bad c client.BadReply
 sound_changes (Changes asked) c since now count entries = sound_changed c.known c.hint c asked since now count entries
-sound_changes (Ask i s v k) c since now count entries = bad c client.BadReply
-sound_changes (Edit i b) c since now count entries = bad c client.BadReply
-sound_changes (Append b) c since now count entries = bad c client.BadReply
+sound_changes (Ask i v k) c since now count entries = bad c client.BadReply
+sound_changes Edit c since now count entries = bad c client.BadReply
+sound_changes Append c since now count entries = bad c client.BadReply
 sound_changes Publish c since now count entries = bad c client.BadReply
 
 sound_by_parts : (known : Option ServerInfo) (c : ClientState) (version count : ℕ) → IsSound c (goes_by_parts known c version count)
@@ -145,35 +145,35 @@ sound_by_parts (Some k) c version count = either c _ _ (faulty c client.BadReply
 
 sound_no_delta : (call : Call) (c : ClientState) (version count : ℕ) → IsSound c (takes_no_delta call c version count)
 sound_no_delta Idle c version count = bad c client.BadReply
-sound_no_delta (Hello key) c version count = bad c client.BadReply
+sound_no_delta Hello c version count = bad c client.BadReply
 sound_no_delta (Sync s v p) c version count = bad c client.BadReply
 sound_no_delta (Delta asked) c version count = sound_by_parts c.known c version count
 sound_no_delta (Changes asked) c version count = sound_by_parts c.known c version count
-sound_no_delta (Ask i s v k) c version count = bad c client.BadReply
-sound_no_delta (Edit i b) c version count = bad c client.BadReply
-sound_no_delta (Append b) c version count = bad c client.BadReply
+sound_no_delta (Ask i v k) c version count = bad c client.BadReply
+sound_no_delta Edit c version count = bad c client.BadReply
+sound_no_delta Append c version count = bad c client.BadReply
 sound_no_delta Publish c version count = bad c client.BadReply
 
 sound_done : (call : Call) (c : ClientState) (version : ℕ) → IsSound c (takes_done call c version)
 sound_done Idle c version = bad c client.BadReply
-sound_done (Hello key) c version = bad c client.BadReply
+sound_done Hello c version = bad c client.BadReply
 sound_done (Sync s v p) c version = bad c client.BadReply
 sound_done (Delta since) c version = bad c client.BadReply
 sound_done (Changes since) c version = bad c client.BadReply
-sound_done (Ask i s v k) c version = bad c client.BadReply
-sound_done (Edit i b) c version = λ _. (refl, refl, refl)
-sound_done (Append b) c version = λ _. (refl, refl, refl)
+sound_done (Ask i v k) c version = bad c client.BadReply
+sound_done Edit c version = λ _. (refl, refl, refl)
+sound_done Append c version = λ _. (refl, refl, refl)
 sound_done Publish c version = λ _. (refl, refl, refl)
 
 sound_refused : (call : Call) (c : ClientState) (code : ℕ) → IsSound c (takes_refused call c code)
 sound_refused Idle c code = bad c client.BadReply
-sound_refused (Hello key) c code = λ _. (refl, refl, refl)
+sound_refused Hello c code = λ _. (refl, refl, refl)
 sound_refused (Sync s v p) c code = λ _. (refl, refl, refl)
 sound_refused (Delta since) c code = λ _. (refl, refl, refl)
 sound_refused (Changes since) c code = λ _. (refl, refl, refl)
-sound_refused (Ask i s v k) c code = λ _. (refl, refl, refl)
-sound_refused (Edit i b) c code = λ _. (refl, refl, refl)
-sound_refused (Append b) c code = λ _. (refl, refl, refl)
+sound_refused (Ask i v k) c code = λ _. (refl, refl, refl)
+sound_refused Edit c code = λ _. (refl, refl, refl)
+sound_refused Append c code = λ _. (refl, refl, refl)
 sound_refused Publish c code = λ _. (refl, refl, refl)
 
 sound : (c : ClientState) (f : Frame) → IsSound c (reaction_to_reply c f)

@@ -13,9 +13,9 @@ use Rattle.client_core.specs.declared.state.Hint.{Hint}
 use Rattle.client_core.specs.declared.state.CallFault.{CallFault}
 use Rattle.client_core.specs.declared.state.CallFault.TheVariants.{NotReady, Busy, BadIndex, SeedUsedUp, Failed}
 use Rattle.client_core.specs.States.{is_idle, is_ready, known_version, known_count, simple_version, delta_base}
-use Rattle.client_core.specs.Calls.{ClientCall, Hello, Sync, Ask, Edit, Append, Publish, refusal, sync_begun, call_frame, call_words, Accepts}
+use Rattle.client_core.specs.Calls.{ClientCall, Hello, Sync, Ask, Edit, Append, Publish, refusal, sync_frame, call_frame, call_words, Accepts}
 use Rattle.client_core.specs.Resuming.{holding}
-use Rattle.client_commands.specs.Laws.{frame_of_call, WordsOfAHintAreNotSent}
+use Rattle.client_commands.specs.Laws.{WordsOfAHintAreNotSent}
 
 -- whether an ask is refused, by whether a hint of the last version known is held
 abbrev refusal_by : ClientState → ℕ → Bool → Option CallFault
@@ -43,16 +43,12 @@ base_alike : (s : Scheme) (one other : Hint) → one.scheme ≡ other.scheme →
 base_alike Simple one other e v = ap (λ (x : Scheme). simple_version x one.version) e ∙ ap (simple_version other.scheme) v
 base_alike Double one other e v = refl
 
--- the frame with which a sync begins
-abbrev sync_frame : Option ℕ → Scheme → ClientState → Frame
-sync_frame base s c = call_frame (sync_begun base s c) (sync_begun base s c).call
-
 begun_alike : (base : Option ℕ) (s : Scheme) (c : ClientState) (one other : Hint) → sync_frame base s (holding c one) ≡ sync_frame base s (holding c other)
 begun_alike None s c one other = refl
 begun_alike (Some since) s c one other = refl
 
 frame_alike : (c : ClientState) (want : ClientCall) (one other : Hint) → one.scheme ≡ other.scheme → one.version ≡ other.version →
-    frame_of_call want (holding c one) ≡ frame_of_call want (holding c other)
+    call_frame want (holding c one) ≡ call_frame want (holding c other)
 frame_alike c (Ask i) one other e v =
     ap (λ (s : Scheme). frame.Query (scheme_byte s) (known_version c.known) (call_words c.known s c.seed c.number i)) e
 frame_alike c (Sync scheme) one other e v =
@@ -63,8 +59,8 @@ frame_alike c (Edit i bytes) one other e v = refl
 frame_alike c (Append bytes) one other e v = refl
 frame_alike c Publish one other e v = refl
 
-bytes_of_call : (want : ClientCall) (old new : ClientState) (bytes : List ℕ) → Accepts old want new bytes → bytes ≡ encoding (frame_of_call want old)
-bytes_of_call want old new bytes a = a.written ∙ ap (λ (c : ClientState). encoding (call_frame c c.call)) a.state
+bytes_of_call : (want : ClientCall) (old new : ClientState) (bytes : List ℕ) → Accepts old want new bytes → bytes ≡ encoding (call_frame want old)
+bytes_of_call want old new bytes a = a.written
 
 pub words_of_a_hint_are_not_sent : WordsOfAHintAreNotSent
 words_of_a_hint_are_not_sent c want one other e v = record {

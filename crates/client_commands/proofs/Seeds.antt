@@ -27,7 +27,7 @@ either s true x y p q = p
 either s false x y p q = q
 
 welcome_seed : (k : Call) (c : ClientState) (plan : Plan) (count version : ℕ) → (takes_welcome k c plan count version).state.seed ≡ c.seed
-welcome_seed (call.Hello key) c plan count version = either c.seed _ _ _ refl refl
+welcome_seed call.Hello c plan count version = either c.seed _ _ _ refl refl
 welcome_seed _ c plan count version = refl
 
 asked_part_seed : (known : Option ServerInfo) (s : Scheme) (c : ClientState) (v p scheme version part : ℕ) (words : List ℕ) →
@@ -47,7 +47,7 @@ answered_seed (Some k) None c i v m scheme version words = refl
 answered_seed (Some k) (Some h) c i v m scheme version words = either c.seed _ _ _ refl refl
 
 answer_seed : (k : Call) (c : ClientState) (scheme version : ℕ) (words : List ℕ) → (takes_answer k c scheme version words).state.seed ≡ c.seed
-answer_seed (call.Ask i x v m) c scheme version words = answered_seed c.known c.hint c i v m scheme version words
+answer_seed (call.Ask i v m) c scheme version words = answered_seed c.known c.hint c i v m scheme version words
 answer_seed _ c scheme version words = refl
 
 staled_seed : (known : Option ServerInfo) (later c : ClientState) (asked version count : ℕ) → later.seed ≡ c.seed →
@@ -57,7 +57,7 @@ staled_seed (Some k) later c asked version count e = either c.seed _ _ _ e refl
 
 stale_seed : (k : Call) (c : ClientState) (version count : ℕ) → (takes_stale k c version count).state.seed ≡ c.seed
 stale_seed (call.Sync s v p) c version count = staled_seed c.known (record c { parts = [] }) c v version count refl
-stale_seed (call.Ask i x v m) c version count = staled_seed c.known c c v version count refl
+stale_seed (call.Ask i v m) c version count = staled_seed c.known c c v version count refl
 stale_seed _ c version count = refl
 
 moved_seed : (known : Option ServerInfo) (hint : Option Hint) (c : ClientState) (asked since now count : ℕ) (rows : RowList) →
@@ -90,8 +90,8 @@ no_delta_seed (call.Changes asked) c version count = by_parts_seed c.known c ver
 no_delta_seed _ c version count = refl
 
 done_seed : (k : Call) (c : ClientState) (version : ℕ) → (takes_done k c version).state.seed ≡ c.seed
-done_seed (call.Edit i b) c version = refl
-done_seed (call.Append b) c version = refl
+done_seed call.Edit c version = refl
+done_seed call.Append c version = refl
 done_seed call.Publish c version = refl
 done_seed _ c version = refl
 

@@ -17,26 +17,19 @@ use Rattle.client_core.specs.declared.state.CallFault.{CallFault}
 use Rattle.client_core.specs.declared.state.CallFault.TheVariants.{Failed, Busy, NotReady}
 use Rattle.client_core.specs.States.{is_idle, known_version, delta_base}
 use Rattle.client_core.specs.Endings.{IsNoSync}
-use Rattle.client_core.specs.Calls.{ClientCall, Hello, Sync, Ask, call_frame, sync_begun, state_after_call, change_refusal, Accepts}
+use Rattle.client_core.specs.Calls.{ClientCall, Hello, Sync, Ask, call_frame, sync_frame, change_refusal, Accepts}
 use Rattle.client_core.specs.Feeding.{Client}
 use Rattle.client_commands.specs.Sent.{SendsCommand}
 use Rattle.client_commands.specs.declared.fault.CommandError.TheVariants.{Call}
 use Rattle.client_commands.specs.Transcripts.{most_reads, AnswersCall, Exchanges, Calls, Judges, Transacts, retrieval}
 use Rattle.client_commands.proofs.Conversations.{event_leaves_the_hint}
 
--- the frame of an accepted call
-abbrev pub frame_of : ClientCall → ClientState → Frame
-frame_of want old = call_frame (state_after_call want old) (state_after_call want old).call
-
-accepted_bytes : (want : ClientCall) (old new : ClientState) (bytes : List ℕ) → Accepts old want new bytes → bytes ≡ encoding (frame_of want old)
-accepted_bytes want old new bytes a = a.written ∙ ap (λ (c : ClientState). encoding (call_frame c c.call)) a.state
-
 -- a call that came to an event has sent its frame, and what the client said after it
 exchanged_bytes : (old : Client) (want : ClientCall) (event : Event) (read out : List ℕ) (left : Option (List ℕ)) (new : Client)
-    → Exchanges old want (Ok event) read out left new → (said : List ℕ) × (out ≡ encoding (frame_of want old.state) ++ said)
+    → Exchanges old want (Ok event) read out left new → (said : List ℕ) × (out ≡ encoding (call_frame want old.state) ++ said)
 exchanged_bytes old want event read out left new x = elim (x.answered.1) [
   | inl h ↦ absurd h
-  | inr h ↦ (h.0, h.1 ∙ ap (λ (b : List ℕ). b ++ h.0) (accepted_bytes want old.state x.called.state x.first x.accepted))
+  | inr h ↦ (h.0, h.1 ∙ ap (λ (b : List ℕ). b ++ h.0) x.accepted.written)
 ]
 
 -- ---- a client that is let in holds no hint
@@ -76,9 +69,9 @@ no_base Simple = refl
 no_base Double = refl
 
 -- a sync without a hint asks for the first part of one
-by_parts : (s : Scheme) (old : ClientState) → old.hint ≡ None → frame_of (Sync s) old ≡ frame.HintAsk (scheme_byte s) (known_version old.known) 0
+by_parts : (s : Scheme) (old : ClientState) → old.hint ≡ None → call_frame (Sync s) old ≡ frame.HintAsk (scheme_byte s) (known_version old.known) 0
 by_parts s old none =
-    ap (λ (b : Option ℕ). call_frame (sync_begun b s old) (sync_begun b s old).call) (ap (λ (h : Option Hint). delta_base s h) none ∙ no_base s)
+    ap (λ (b : Option ℕ). sync_frame b s old) (ap (λ (h : Option Hint). delta_base s h) none ∙ no_base s)
 
 -- ---- a retrieval
 

@@ -46,13 +46,13 @@ if_reacts call false x y p q = q
 welcome_reacts : (call : Call) (c : ClientState) (plan : Plan) (count version : ℕ) →
     ReactsTo call (takes_welcome call c plan count version)
 welcome_reacts Idle c plan count version = tt
-welcome_reacts (Hello key) c plan count version = if_reacts (Hello key) (is_accepted_welcome c.profile plan count version) _ _ (λ _. tt) tt
+welcome_reacts Hello c plan count version = if_reacts Hello (is_accepted_welcome c.profile plan count version) _ _ (λ _. tt) tt
 welcome_reacts (Sync s v p) c plan count version = tt
 welcome_reacts (Delta since) c plan count version = tt
 welcome_reacts (Changes since) c plan count version = tt
-welcome_reacts (Ask i x v m) c plan count version = tt
-welcome_reacts (Edit i b) c plan count version = tt
-welcome_reacts (Append b) c plan count version = tt
+welcome_reacts (Ask i v m) c plan count version = tt
+welcome_reacts Edit c plan count version = tt
+welcome_reacts Append c plan count version = tt
 welcome_reacts Publish c plan count version = tt
 
 -- the number of the next part says nothing of the end
@@ -75,19 +75,19 @@ asked_part_reacts (Some k) s c v p scheme version part words =
 
 part_reacts : (call : Call) (c : ClientState) (scheme version part : ℕ) (words : List ℕ) → ReactsTo call (takes_part call c scheme version part words)
 part_reacts Idle c scheme version part words = tt
-part_reacts (Hello key) c scheme version part words = tt
+part_reacts Hello c scheme version part words = tt
 part_reacts (Sync s v p) c scheme version part words = asked_part_reacts c.known s c v p scheme version part words
 part_reacts (Delta since) c scheme version part words = tt
 part_reacts (Changes since) c scheme version part words = tt
-part_reacts (Ask i x v m) c scheme version part words = tt
-part_reacts (Edit i b) c scheme version part words = tt
-part_reacts (Append b) c scheme version part words = tt
+part_reacts (Ask i v m) c scheme version part words = tt
+part_reacts Edit c scheme version part words = tt
+part_reacts Append c scheme version part words = tt
 part_reacts Publish c scheme version part words = tt
 
 -- a record's event is of the record and the version asked
-of_record : (x : Scheme) (i v m version : ℕ) (given : Option (List ℕ)) → version ≡ v → Ends (Ask i x v m) (event_read i version given)
-of_record x i v m version (Some bytes) e = (refl, e)
-of_record x i v m version None e = (refl, e)
+of_record : (i v m version : ℕ) (given : Option (List ℕ)) → version ≡ v → Ends (Ask i v m) (event_read i version given)
+of_record i v m version (Some bytes) e = (refl, e)
+of_record i v m version None e = (refl, e)
 
 asked_version : (s : Scheme) (scheme version v : ℕ) (b : Bool) → ((scheme == scheme_byte s) && ((version == v) && b)) ≡ true → version ≡ v
 asked_version s scheme version v b h =
@@ -95,25 +95,25 @@ asked_version s scheme version v b h =
     let y = and_parts (version == v) b x.1 in
     eqb-true version v y.0
 
-answered_reacts : (x : Scheme) (known : Option ServerInfo) (hint : Option Hint) (c : ClientState) (i v m scheme version : ℕ) (words : List ℕ) →
-    ReactsTo (Ask i x v m) (answered known hint c i v m scheme version words)
-answered_reacts x None hint c i v m scheme version words = tt
-answered_reacts x (Some k) None c i v m scheme version words = tt
-answered_reacts x (Some k) (Some h) c i v m scheme version words =
+answered_reacts : (known : Option ServerInfo) (hint : Option Hint) (c : ClientState) (i v m scheme version : ℕ) (words : List ℕ) →
+    ReactsTo (Ask i v m) (answered known hint c i v m scheme version words)
+answered_reacts None hint c i v m scheme version words = tt
+answered_reacts (Some k) None c i v m scheme version words = tt
+answered_reacts (Some k) (Some h) c i v m scheme version words =
     let b = length words == answer_count h.scheme (shape_known k) k.plan.dimension in
-    if_reacts (Ask i x v m) (is_answer h.scheme k v scheme version words) _ _
-    (λ is. of_record x i v m version (record_of k.plan (reading h.scheme (shape_known k) h.matrix c.seed m i words)) (asked_version h.scheme scheme version v b is))
+    if_reacts (Ask i v m) (is_answer h.scheme k v scheme version words) _ _
+    (λ is. of_record i v m version (record_of k.plan (reading h.scheme (shape_known k) h.matrix c.seed m i words)) (asked_version h.scheme scheme version v b is))
     tt
 
 answer_reacts : (call : Call) (c : ClientState) (scheme version : ℕ) (words : List ℕ) → ReactsTo call (takes_answer call c scheme version words)
 answer_reacts Idle c scheme version words = tt
-answer_reacts (Hello key) c scheme version words = tt
+answer_reacts Hello c scheme version words = tt
 answer_reacts (Sync s v p) c scheme version words = tt
 answer_reacts (Delta since) c scheme version words = tt
 answer_reacts (Changes since) c scheme version words = tt
-answer_reacts (Ask i x v m) c scheme version words = answered_reacts x c.known c.hint c i v m scheme version words
-answer_reacts (Edit i b) c scheme version words = tt
-answer_reacts (Append b) c scheme version words = tt
+answer_reacts (Ask i v m) c scheme version words = answered_reacts c.known c.hint c i v m scheme version words
+answer_reacts Edit c scheme version words = tt
+answer_reacts Append c scheme version words = tt
 answer_reacts Publish c scheme version words = tt
 
 another_version : (version v : ℕ) (b : Bool) → (not (version == v) && b) ≡ true → version ≢ v
@@ -130,22 +130,22 @@ stale_sync_reacts (Some k) after c s v p version count =
     let b = is_current k version count in
     if_reacts (Sync s v p) (not (version == v) && b) _ _ (another_version version v b) tt
 
-stale_ask_reacts : (x : Scheme) (known : Option ServerInfo) (after c : ClientState) (i v m version count : ℕ) →
-    ReactsTo (Ask i x v m) (reaction_to_stale known after c v version count)
-stale_ask_reacts x None after c i v m version count = tt
-stale_ask_reacts x (Some k) after c i v m version count =
+stale_ask_reacts : (known : Option ServerInfo) (after c : ClientState) (i v m version count : ℕ) →
+    ReactsTo (Ask i v m) (reaction_to_stale known after c v version count)
+stale_ask_reacts None after c i v m version count = tt
+stale_ask_reacts (Some k) after c i v m version count =
     let b = is_current k version count in
-    if_reacts (Ask i x v m) (not (version == v) && b) _ _ (another_version version v b) tt
+    if_reacts (Ask i v m) (not (version == v) && b) _ _ (another_version version v b) tt
 
 stale_reacts : (call : Call) (c : ClientState) (version count : ℕ) → ReactsTo call (takes_stale call c version count)
 stale_reacts Idle c version count = tt
-stale_reacts (Hello key) c version count = tt
+stale_reacts Hello c version count = tt
 stale_reacts (Sync s v p) c version count = stale_sync_reacts c.known (record c { parts = [] }) c s v p version count
 stale_reacts (Delta since) c version count = tt
 stale_reacts (Changes since) c version count = tt
-stale_reacts (Ask i x v m) c version count = stale_ask_reacts x c.known c c i v m version count
-stale_reacts (Edit i b) c version count = tt
-stale_reacts (Append b) c version count = tt
+stale_reacts (Ask i v m) c version count = stale_ask_reacts c.known c c i v m version count
+stale_reacts Edit c version count = tt
+stale_reacts Append c version count = tt
 stale_reacts Publish c version count = tt
 
 moved_reacts : (known : Option ServerInfo) (hint : Option Hint) (c : ClientState) (asked since now count : ℕ) (rows : RowList) →
@@ -157,13 +157,13 @@ moved_reacts (Some k) (Some h) c asked since now count rows =
 
 delta_reacts : (call : Call) (c : ClientState) (since now count : ℕ) (rows : RowList) → ReactsTo call (takes_delta call c since now count rows)
 delta_reacts Idle c since now count rows = tt
-delta_reacts (Hello key) c since now count rows = tt
+delta_reacts Hello c since now count rows = tt
 delta_reacts (Sync s v p) c since now count rows = tt
 delta_reacts (Delta asked) c since now count rows = moved_reacts c.known c.hint c asked since now count rows
 delta_reacts (Changes asked) c since now count rows = tt
-delta_reacts (Ask i x v m) c since now count rows = tt
-delta_reacts (Edit i b) c since now count rows = tt
-delta_reacts (Append b) c since now count rows = tt
+delta_reacts (Ask i v m) c since now count rows = tt
+delta_reacts Edit c since now count rows = tt
+delta_reacts Append c since now count rows = tt
 delta_reacts Publish c since now count rows = tt
 
 changed_reacts : (known : Option ServerInfo) (hint : Option Hint) (c : ClientState) (asked since now count : ℕ) (entries : List ℕ) →
@@ -175,13 +175,13 @@ changed_reacts (Some k) (Some h) c asked since now count entries =
 
 changes_react : (call : Call) (c : ClientState) (since now count : ℕ) (entries : List ℕ) → ReactsTo call (takes_changes call c since now count entries)
 changes_react Idle c since now count entries = tt
-changes_react (Hello key) c since now count entries = tt
+changes_react Hello c since now count entries = tt
 changes_react (Sync s v p) c since now count entries = tt
 changes_react (Delta asked) c since now count entries = tt
 changes_react (Changes asked) c since now count entries = changed_reacts c.known c.hint c asked since now count entries
-changes_react (Ask i x v m) c since now count entries = tt
-changes_react (Edit i b) c since now count entries = tt
-changes_react (Append b) c since now count entries = tt
+changes_react (Ask i v m) c since now count entries = tt
+changes_react Edit c since now count entries = tt
+changes_react Append c since now count entries = tt
 changes_react Publish c since now count entries = tt
 
 -- a sync that goes on by parts ends as one by what changed may
@@ -210,35 +210,35 @@ by_parts_reacts call (Some k) c version count ends = if_reacts call (is_current 
 
 no_delta_reacts : (call : Call) (c : ClientState) (version count : ℕ) → ReactsTo call (takes_no_delta call c version count)
 no_delta_reacts Idle c version count = tt
-no_delta_reacts (Hello key) c version count = tt
+no_delta_reacts Hello c version count = tt
 no_delta_reacts (Sync s v p) c version count = tt
 no_delta_reacts (Delta asked) c version count = by_parts_reacts (Delta asked) c.known c version count (parts_end_delta asked version)
 no_delta_reacts (Changes asked) c version count = by_parts_reacts (Changes asked) c.known c version count (parts_end_changes asked version)
-no_delta_reacts (Ask i x v m) c version count = tt
-no_delta_reacts (Edit i b) c version count = tt
-no_delta_reacts (Append b) c version count = tt
+no_delta_reacts (Ask i v m) c version count = tt
+no_delta_reacts Edit c version count = tt
+no_delta_reacts Append c version count = tt
 no_delta_reacts Publish c version count = tt
 
 done_reacts : (call : Call) (c : ClientState) (version : ℕ) → ReactsTo call (takes_done call c version)
 done_reacts Idle c version = tt
-done_reacts (Hello key) c version = tt
+done_reacts Hello c version = tt
 done_reacts (Sync s v p) c version = tt
 done_reacts (Delta since) c version = tt
 done_reacts (Changes since) c version = tt
-done_reacts (Ask i x v m) c version = tt
-done_reacts (Edit i b) c version = tt
-done_reacts (Append b) c version = tt
+done_reacts (Ask i v m) c version = tt
+done_reacts Edit c version = tt
+done_reacts Append c version = tt
 done_reacts Publish c version = tt
 
 refused_reacts : (call : Call) (c : ClientState) (code : ℕ) → ReactsTo call (takes_refused call c code)
 refused_reacts Idle c code = tt
-refused_reacts (Hello key) c code = tt
+refused_reacts Hello c code = tt
 refused_reacts (Sync s v p) c code = tt
 refused_reacts (Delta since) c code = tt
 refused_reacts (Changes since) c code = tt
-refused_reacts (Ask i x v m) c code = tt
-refused_reacts (Edit i b) c code = tt
-refused_reacts (Append b) c code = tt
+refused_reacts (Ask i v m) c code = tt
+refused_reacts Edit c code = tt
+refused_reacts Append c code = tt
 refused_reacts Publish c code = tt
 
 reacts : (c : ClientState) (f : Frame) → ReactsTo c.call (reaction_to_reply c f)

@@ -178,8 +178,7 @@ failed_stays old new piece out events fault f failed =
 call_happened : (old new : ClientState) (want : ClientCall) (bytes : List ℕ) → Accepts old want new bytes →
     (bytes ≡ flat_map encoding (frames_at old (Accepted want))) × (new ≡ after old (Accepted want))
 call_happened old new want bytes a = (
-  a.written ∙ ap (λ (y : ClientState). encoding (call_frame y y.call)) a.state
-      ∙ sym (append-nil (encoding (call_frame (after old (Accepted want)) (after old (Accepted want)).call))),
+  a.written ∙ sym (append-nil (encoding (call_frame want old))),
   a.state,
 )
 

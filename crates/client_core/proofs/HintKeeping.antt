@@ -37,26 +37,26 @@ either c false x y p q = q
 welcome_stays : (k : Call) (c : ClientState) (plan : Plan) (count version : ℕ) → IsNoSync k → IsNoSync c.call →
     Stays c (takes_welcome k c plan count version).state
 welcome_stays Idle c plan count version a calm = failed_stays c calm
-welcome_stays (Hello key) c plan count version a calm =
+welcome_stays Hello c plan count version a calm =
     either c _ _ _ (ended_stays c (record c { known = Some (record { version = version; count = count; plan = plan }) }) refl) (failed_stays c calm)
 welcome_stays (Sync s v p) c plan count version a calm = absurd a
 welcome_stays (Delta since) c plan count version a calm = absurd a
 welcome_stays (Changes since) c plan count version a calm = absurd a
-welcome_stays (Ask i x v m) c plan count version a calm = failed_stays c calm
-welcome_stays (Edit i b) c plan count version a calm = failed_stays c calm
-welcome_stays (Append b) c plan count version a calm = failed_stays c calm
+welcome_stays (Ask i v m) c plan count version a calm = failed_stays c calm
+welcome_stays Edit c plan count version a calm = failed_stays c calm
+welcome_stays Append c plan count version a calm = failed_stays c calm
 welcome_stays Publish c plan count version a calm = failed_stays c calm
 
 part_stays : (k : Call) (c : ClientState) (scheme version part : ℕ) (words : List ℕ) → IsNoSync k → IsNoSync c.call →
     Stays c (takes_part k c scheme version part words).state
 part_stays Idle c scheme version part words a calm = failed_stays c calm
-part_stays (Hello key) c scheme version part words a calm = failed_stays c calm
+part_stays Hello c scheme version part words a calm = failed_stays c calm
 part_stays (Sync s v p) c scheme version part words a calm = absurd a
 part_stays (Delta since) c scheme version part words a calm = absurd a
 part_stays (Changes since) c scheme version part words a calm = absurd a
-part_stays (Ask i x v m) c scheme version part words a calm = failed_stays c calm
-part_stays (Edit i b) c scheme version part words a calm = failed_stays c calm
-part_stays (Append b) c scheme version part words a calm = failed_stays c calm
+part_stays (Ask i v m) c scheme version part words a calm = failed_stays c calm
+part_stays Edit c scheme version part words a calm = failed_stays c calm
+part_stays Append c scheme version part words a calm = failed_stays c calm
 part_stays Publish c scheme version part words a calm = failed_stays c calm
 
 answered_stays : (known : Option ServerInfo) (hint : Option Hint) (c : ClientState) (i v m scheme version : ℕ) (words : List ℕ) → IsNoSync c.call →
@@ -68,13 +68,13 @@ answered_stays (Some k) (Some h) c i v m scheme version words calm = either c _ 
 answer_stays : (k : Call) (c : ClientState) (scheme version : ℕ) (words : List ℕ) → IsNoSync k → IsNoSync c.call →
     Stays c (takes_answer k c scheme version words).state
 answer_stays Idle c scheme version words a calm = failed_stays c calm
-answer_stays (Hello key) c scheme version words a calm = failed_stays c calm
+answer_stays Hello c scheme version words a calm = failed_stays c calm
 answer_stays (Sync s v p) c scheme version words a calm = absurd a
 answer_stays (Delta since) c scheme version words a calm = absurd a
 answer_stays (Changes since) c scheme version words a calm = absurd a
-answer_stays (Ask i x v m) c scheme version words a calm = answered_stays c.known c.hint c i v m scheme version words calm
-answer_stays (Edit i b) c scheme version words a calm = failed_stays c calm
-answer_stays (Append b) c scheme version words a calm = failed_stays c calm
+answer_stays (Ask i v m) c scheme version words a calm = answered_stays c.known c.hint c i v m scheme version words calm
+answer_stays Edit c scheme version words a calm = failed_stays c calm
+answer_stays Append c scheme version words a calm = failed_stays c calm
 answer_stays Publish c scheme version words a calm = failed_stays c calm
 
 staled_stays : (known : Option ServerInfo) (c : ClientState) (asked version count : ℕ) → IsNoSync c.call →
@@ -84,70 +84,70 @@ staled_stays (Some k) c asked version count calm = either c _ _ _ (ended_stays c
 
 stale_stays : (k : Call) (c : ClientState) (version count : ℕ) → IsNoSync k → IsNoSync c.call → Stays c (takes_stale k c version count).state
 stale_stays Idle c version count a calm = failed_stays c calm
-stale_stays (Hello key) c version count a calm = failed_stays c calm
+stale_stays Hello c version count a calm = failed_stays c calm
 stale_stays (Sync s v p) c version count a calm = absurd a
 stale_stays (Delta since) c version count a calm = absurd a
 stale_stays (Changes since) c version count a calm = absurd a
-stale_stays (Ask i x v m) c version count a calm = staled_stays c.known c v version count calm
-stale_stays (Edit i b) c version count a calm = failed_stays c calm
-stale_stays (Append b) c version count a calm = failed_stays c calm
+stale_stays (Ask i v m) c version count a calm = staled_stays c.known c v version count calm
+stale_stays Edit c version count a calm = failed_stays c calm
+stale_stays Append c version count a calm = failed_stays c calm
 stale_stays Publish c version count a calm = failed_stays c calm
 
 delta_stays : (k : Call) (c : ClientState) (since now count : ℕ) (rows : RowList) → IsNoSync k → IsNoSync c.call →
     Stays c (takes_delta k c since now count rows).state
 delta_stays Idle c since now count rows a calm = failed_stays c calm
-delta_stays (Hello key) c since now count rows a calm = failed_stays c calm
+delta_stays Hello c since now count rows a calm = failed_stays c calm
 delta_stays (Sync s v p) c since now count rows a calm = absurd a
 delta_stays (Delta asked) c since now count rows a calm = absurd a
 delta_stays (Changes asked) c since now count rows a calm = absurd a
-delta_stays (Ask i x v m) c since now count rows a calm = failed_stays c calm
-delta_stays (Edit i b) c since now count rows a calm = failed_stays c calm
-delta_stays (Append b) c since now count rows a calm = failed_stays c calm
+delta_stays (Ask i v m) c since now count rows a calm = failed_stays c calm
+delta_stays Edit c since now count rows a calm = failed_stays c calm
+delta_stays Append c since now count rows a calm = failed_stays c calm
 delta_stays Publish c since now count rows a calm = failed_stays c calm
 
 changes_stay : (k : Call) (c : ClientState) (since now count : ℕ) (entries : List ℕ) → IsNoSync k → IsNoSync c.call →
     Stays c (takes_changes k c since now count entries).state
 changes_stay Idle c since now count entries a calm = failed_stays c calm
-changes_stay (Hello key) c since now count entries a calm = failed_stays c calm
+changes_stay Hello c since now count entries a calm = failed_stays c calm
 changes_stay (Sync s v p) c since now count entries a calm = absurd a
 changes_stay (Delta asked) c since now count entries a calm = absurd a
 changes_stay (Changes asked) c since now count entries a calm = absurd a
-changes_stay (Ask i x v m) c since now count entries a calm = failed_stays c calm
-changes_stay (Edit i b) c since now count entries a calm = failed_stays c calm
-changes_stay (Append b) c since now count entries a calm = failed_stays c calm
+changes_stay (Ask i v m) c since now count entries a calm = failed_stays c calm
+changes_stay Edit c since now count entries a calm = failed_stays c calm
+changes_stay Append c since now count entries a calm = failed_stays c calm
 changes_stay Publish c since now count entries a calm = failed_stays c calm
 
 no_delta_stays : (k : Call) (c : ClientState) (version count : ℕ) → IsNoSync k → IsNoSync c.call → Stays c (takes_no_delta k c version count).state
 no_delta_stays Idle c version count a calm = failed_stays c calm
-no_delta_stays (Hello key) c version count a calm = failed_stays c calm
+no_delta_stays Hello c version count a calm = failed_stays c calm
 no_delta_stays (Sync s v p) c version count a calm = absurd a
 no_delta_stays (Delta asked) c version count a calm = absurd a
 no_delta_stays (Changes asked) c version count a calm = absurd a
-no_delta_stays (Ask i x v m) c version count a calm = failed_stays c calm
-no_delta_stays (Edit i b) c version count a calm = failed_stays c calm
-no_delta_stays (Append b) c version count a calm = failed_stays c calm
+no_delta_stays (Ask i v m) c version count a calm = failed_stays c calm
+no_delta_stays Edit c version count a calm = failed_stays c calm
+no_delta_stays Append c version count a calm = failed_stays c calm
 no_delta_stays Publish c version count a calm = failed_stays c calm
 
 done_stays : (k : Call) (c : ClientState) (version : ℕ) → IsNoSync k → IsNoSync c.call → Stays c (takes_done k c version).state
 done_stays Idle c version a calm = failed_stays c calm
-done_stays (Hello key) c version a calm = failed_stays c calm
+done_stays Hello c version a calm = failed_stays c calm
 done_stays (Sync s v p) c version a calm = absurd a
 done_stays (Delta since) c version a calm = absurd a
 done_stays (Changes since) c version a calm = absurd a
-done_stays (Ask i x v m) c version a calm = failed_stays c calm
-done_stays (Edit i b) c version a calm = ended_stays c c refl
-done_stays (Append b) c version a calm = ended_stays c c refl
+done_stays (Ask i v m) c version a calm = failed_stays c calm
+done_stays Edit c version a calm = ended_stays c c refl
+done_stays Append c version a calm = ended_stays c c refl
 done_stays Publish c version a calm = ended_stays c c refl
 
 refused_stays : (k : Call) (c : ClientState) (code : ℕ) → IsNoSync k → IsNoSync c.call → Stays c (takes_refused k c code).state
 refused_stays Idle c code a calm = failed_stays c calm
-refused_stays (Hello key) c code a calm = ended_stays c c refl
+refused_stays Hello c code a calm = ended_stays c c refl
 refused_stays (Sync s v p) c code a calm = absurd a
 refused_stays (Delta since) c code a calm = absurd a
 refused_stays (Changes since) c code a calm = absurd a
-refused_stays (Ask i x v m) c code a calm = ended_stays c c refl
-refused_stays (Edit i b) c code a calm = ended_stays c c refl
-refused_stays (Append b) c code a calm = ended_stays c c refl
+refused_stays (Ask i v m) c code a calm = ended_stays c c refl
+refused_stays Edit c code a calm = ended_stays c c refl
+refused_stays Append c code a calm = ended_stays c c refl
 refused_stays Publish c code a calm = ended_stays c c refl
 
 takes_stays : (c : ClientState) (f : Frame) → IsNoSync c.call → Stays c (reaction_to_reply c f).state

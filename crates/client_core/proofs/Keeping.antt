@@ -42,11 +42,11 @@ if_keeps c false x y p q = q refl
 
 -- ---- Welcome
 
-no_hint : (known : Option ServerInfo) (hint : Option Hint) (key parts : List ℕ) (k : ServerInfo) → CallFits (Hello key) known parts → HintFits known hint →
+no_hint : (known : Option ServerInfo) (hint : Option Hint) (parts : List ℕ) (k : ServerInfo) → CallFits Hello known parts → HintFits known hint →
     HintFits (Some k) hint
-no_hint None None key parts k a b = tt
-no_hint None (Some h) key parts k a b = absurd b
-no_hint (Some j) hint key parts k a b = absurd a
+no_hint None None parts k a b = tt
+no_hint None (Some h) parts k a b = absurd b
+no_hint (Some j) hint parts k a b = absurd a
 
 reported : ℕ → Plan → ℕ → ServerInfo
 reported version plan count = record { version = version; count = count; plan = plan }
@@ -61,13 +61,13 @@ welcome_known profile plan count version h =
     let e = and_parts (nat_le 1 plan.dimension) (nat_le plan.dimension 1024) d.0 in
     record { form = a.0; layout = layout_means (shape_at plan count) b.0; low = leb-true 1 plan.dimension e.0; high = leb-true plan.dimension 1024 e.1 }
 
-welcomed_keeps : (c : ClientState) (key : List ℕ) (plan : Plan) (count version : ℕ) → IsState c → CallFits (Hello key) c.known c.parts
+welcomed_keeps : (c : ClientState) (plan : Plan) (count version : ℕ) → IsState c → CallFits Hello c.known c.parts
     → is_accepted_welcome c.profile plan count version ≡ true → Keeps c (record c { known = Some (reported version plan count); call = Idle })
-welcomed_keeps c key plan count version s fits is = record {
+welcomed_keeps c plan count version s fits is = record {
   good = record {
     number = s.number;
     known = welcome_known c.profile plan count version is;
-    hint = no_hint c.known c.hint key c.parts (reported version plan count) fits s.hint;
+    hint = no_hint c.known c.hint c.parts (reported version plan count) fits s.hint;
     call = tt;
     delta = tt;
   };
@@ -78,18 +78,18 @@ welcome_keeps : (call : Call) (c : ClientState) (plan : Plan) (count version : �
     Keeps c (takes_welcome call c plan count version).state
 unfolding reported
 welcome_keeps Idle c plan count version s fits = faulty_keeps c s
-welcome_keeps (Hello key) c plan count version s fits =
+welcome_keeps Hello c plan count version s fits =
     if_keeps c (is_accepted_welcome c.profile plan count version)
     (ended (record c { known = Some (reported version plan count) }) (Welcomed version))
     (faulty c BadWelcome)
-    (welcomed_keeps c key plan count version s fits)
+    (welcomed_keeps c plan count version s fits)
     (λ _. faulty_keeps c s)
 welcome_keeps (Sync x v p) c plan count version s fits = faulty_keeps c s
 welcome_keeps (Delta since) c plan count version s fits = faulty_keeps c s
 welcome_keeps (Changes since) c plan count version s fits = faulty_keeps c s
-welcome_keeps (Ask i x v m) c plan count version s fits = faulty_keeps c s
-welcome_keeps (Edit i b) c plan count version s fits = faulty_keeps c s
-welcome_keeps (Append b) c plan count version s fits = faulty_keeps c s
+welcome_keeps (Ask i v m) c plan count version s fits = faulty_keeps c s
+welcome_keeps Edit c plan count version s fits = faulty_keeps c s
+welcome_keeps Append c plan count version s fits = faulty_keeps c s
 welcome_keeps Publish c plan count version s fits = faulty_keeps c s
 
 -- ---- HintPart
@@ -141,13 +141,13 @@ asked_part_keeps (Some k) x c v p scheme version part words e s fits =
 part_keeps : (call : Call) (c : ClientState) (scheme version part : ℕ) (words : List ℕ) → IsState c → CallFits call c.known c.parts →
     Keeps c (takes_part call c scheme version part words).state
 part_keeps Idle c scheme version part words s fits = faulty_keeps c s
-part_keeps (Hello key) c scheme version part words s fits = faulty_keeps c s
+part_keeps Hello c scheme version part words s fits = faulty_keeps c s
 part_keeps (Sync x v p) c scheme version part words s fits = asked_part_keeps c.known x c v p scheme version part words refl s fits
 part_keeps (Delta since) c scheme version part words s fits = faulty_keeps c s
 part_keeps (Changes since) c scheme version part words s fits = faulty_keeps c s
-part_keeps (Ask i x v m) c scheme version part words s fits = faulty_keeps c s
-part_keeps (Edit i b) c scheme version part words s fits = faulty_keeps c s
-part_keeps (Append b) c scheme version part words s fits = faulty_keeps c s
+part_keeps (Ask i v m) c scheme version part words s fits = faulty_keeps c s
+part_keeps Edit c scheme version part words s fits = faulty_keeps c s
+part_keeps Append c scheme version part words s fits = faulty_keeps c s
 part_keeps Publish c scheme version part words s fits = faulty_keeps c s
 
 -- ---- Answer
@@ -161,13 +161,13 @@ answered_keeps (Some k) (Some h) c i v m scheme version words s =
 
 answer_keeps : (call : Call) (c : ClientState) (scheme version : ℕ) (words : List ℕ) → IsState c → Keeps c (takes_answer call c scheme version words).state
 answer_keeps Idle c scheme version words s = faulty_keeps c s
-answer_keeps (Hello key) c scheme version words s = faulty_keeps c s
+answer_keeps Hello c scheme version words s = faulty_keeps c s
 answer_keeps (Sync x v p) c scheme version words s = faulty_keeps c s
 answer_keeps (Delta since) c scheme version words s = faulty_keeps c s
 answer_keeps (Changes since) c scheme version words s = faulty_keeps c s
-answer_keeps (Ask i x v m) c scheme version words s = answered_keeps c.known c.hint c i v m scheme version words s
-answer_keeps (Edit i b) c scheme version words s = faulty_keeps c s
-answer_keeps (Append b) c scheme version words s = faulty_keeps c s
+answer_keeps (Ask i v m) c scheme version words s = answered_keeps c.known c.hint c i v m scheme version words s
+answer_keeps Edit c scheme version words s = faulty_keeps c s
+answer_keeps Append c scheme version words s = faulty_keeps c s
 answer_keeps Publish c scheme version words s = faulty_keeps c s
 
 -- ---- Stale
@@ -212,13 +212,13 @@ staled_keeps (Some k) c after asked version count e s en eh =
 
 stale_keeps : (call : Call) (c : ClientState) (version count : ℕ) → IsState c → Keeps c (takes_stale call c version count).state
 stale_keeps Idle c version count s = faulty_keeps c s
-stale_keeps (Hello key) c version count s = faulty_keeps c s
+stale_keeps Hello c version count s = faulty_keeps c s
 stale_keeps (Sync x v p) c version count s = staled_keeps c.known c (record c { parts = [] }) v version count refl s refl refl
 stale_keeps (Delta since) c version count s = faulty_keeps c s
 stale_keeps (Changes since) c version count s = faulty_keeps c s
-stale_keeps (Ask i x v m) c version count s = staled_keeps c.known c c v version count refl s refl refl
-stale_keeps (Edit i b) c version count s = faulty_keeps c s
-stale_keeps (Append b) c version count s = faulty_keeps c s
+stale_keeps (Ask i v m) c version count s = staled_keeps c.known c c v version count refl s refl refl
+stale_keeps Edit c version count s = faulty_keeps c s
+stale_keeps Append c version count s = faulty_keeps c s
 stale_keeps Publish c version count s = faulty_keeps c s
 
 -- ---- Delta, Changes and NoDelta
@@ -255,13 +255,13 @@ moved_keeps (Some k) (Some h) c asked since now count rows e eh s =
 
 delta_keeps : (call : Call) (c : ClientState) (since now count : ℕ) (rows : RowList) → IsState c → Keeps c (takes_delta call c since now count rows).state
 delta_keeps Idle c since now count rows s = faulty_keeps c s
-delta_keeps (Hello key) c since now count rows s = faulty_keeps c s
+delta_keeps Hello c since now count rows s = faulty_keeps c s
 delta_keeps (Sync x v p) c since now count rows s = faulty_keeps c s
 delta_keeps (Delta asked) c since now count rows s = moved_keeps c.known c.hint c asked since now count rows refl refl s
 delta_keeps (Changes asked) c since now count rows s = faulty_keeps c s
-delta_keeps (Ask i x v m) c since now count rows s = faulty_keeps c s
-delta_keeps (Edit i b) c since now count rows s = faulty_keeps c s
-delta_keeps (Append b) c since now count rows s = faulty_keeps c s
+delta_keeps (Ask i v m) c since now count rows s = faulty_keeps c s
+delta_keeps Edit c since now count rows s = faulty_keeps c s
+delta_keeps Append c since now count rows s = faulty_keeps c s
 delta_keeps Publish c since now count rows s = faulty_keeps c s
 
 -- changes that were asked for name a version that can be
@@ -296,13 +296,13 @@ changed_keeps (Some k) (Some h) c asked since now count entries e eh s =
 changes_keep : (call : Call) (c : ClientState) (since now count : ℕ) (entries : List ℕ) → IsState c →
     Keeps c (takes_changes call c since now count entries).state
 changes_keep Idle c since now count entries s = faulty_keeps c s
-changes_keep (Hello key) c since now count entries s = faulty_keeps c s
+changes_keep Hello c since now count entries s = faulty_keeps c s
 changes_keep (Sync x v p) c since now count entries s = faulty_keeps c s
 changes_keep (Delta asked) c since now count entries s = faulty_keeps c s
 changes_keep (Changes asked) c since now count entries s = changed_keeps c.known c.hint c asked since now count entries refl refl s
-changes_keep (Ask i x v m) c since now count entries s = faulty_keeps c s
-changes_keep (Edit i b) c since now count entries s = faulty_keeps c s
-changes_keep (Append b) c since now count entries s = faulty_keeps c s
+changes_keep (Ask i v m) c since now count entries s = faulty_keeps c s
+changes_keep Edit c since now count entries s = faulty_keeps c s
+changes_keep Append c since now count entries s = faulty_keeps c s
 changes_keep Publish c since now count entries s = faulty_keeps c s
 
 by_parts_keeps : (known : Option ServerInfo) (c : ClientState) (version count : ℕ) → c.known ≡ known → IsState c →
@@ -319,37 +319,37 @@ by_parts_keeps (Some k) c version count e s =
 
 no_delta_keeps : (call : Call) (c : ClientState) (version count : ℕ) → IsState c → Keeps c (takes_no_delta call c version count).state
 no_delta_keeps Idle c version count s = faulty_keeps c s
-no_delta_keeps (Hello key) c version count s = faulty_keeps c s
+no_delta_keeps Hello c version count s = faulty_keeps c s
 no_delta_keeps (Sync x v p) c version count s = faulty_keeps c s
 no_delta_keeps (Delta asked) c version count s = by_parts_keeps c.known c version count refl s
 no_delta_keeps (Changes asked) c version count s = by_parts_keeps c.known c version count refl s
-no_delta_keeps (Ask i x v m) c version count s = faulty_keeps c s
-no_delta_keeps (Edit i b) c version count s = faulty_keeps c s
-no_delta_keeps (Append b) c version count s = faulty_keeps c s
+no_delta_keeps (Ask i v m) c version count s = faulty_keeps c s
+no_delta_keeps Edit c version count s = faulty_keeps c s
+no_delta_keeps Append c version count s = faulty_keeps c s
 no_delta_keeps Publish c version count s = faulty_keeps c s
 
 -- ---- Done and Refused
 
 done_keeps : (call : Call) (c : ClientState) (version : ℕ) → IsState c → Keeps c (takes_done call c version).state
 done_keeps Idle c version s = faulty_keeps c s
-done_keeps (Hello key) c version s = faulty_keeps c s
+done_keeps Hello c version s = faulty_keeps c s
 done_keeps (Sync x v p) c version s = faulty_keeps c s
 done_keeps (Delta since) c version s = faulty_keeps c s
 done_keeps (Changes since) c version s = faulty_keeps c s
-done_keeps (Ask i x v m) c version s = faulty_keeps c s
-done_keeps (Edit i b) c version s = ended_keeps c s
-done_keeps (Append b) c version s = ended_keeps c s
+done_keeps (Ask i v m) c version s = faulty_keeps c s
+done_keeps Edit c version s = ended_keeps c s
+done_keeps Append c version s = ended_keeps c s
 done_keeps Publish c version s = ended_keeps c s
 
 refused_keeps : (call : Call) (c : ClientState) (code : ℕ) → IsState c → Keeps c (takes_refused call c code).state
 refused_keeps Idle c code s = faulty_keeps c s
-refused_keeps (Hello key) c code s = ended_keeps c s
+refused_keeps Hello c code s = ended_keeps c s
 refused_keeps (Sync x v p) c code s = emptied_keeps c s
 refused_keeps (Delta since) c code s = ended_keeps c s
 refused_keeps (Changes since) c code s = ended_keeps c s
-refused_keeps (Ask i x v m) c code s = ended_keeps c s
-refused_keeps (Edit i b) c code s = ended_keeps c s
-refused_keeps (Append b) c code s = ended_keeps c s
+refused_keeps (Ask i v m) c code s = ended_keeps c s
+refused_keeps Edit c code s = ended_keeps c s
+refused_keeps Append c code s = ended_keeps c s
 refused_keeps Publish c code s = ended_keeps c s
 
 -- ---- any frame

@@ -25,13 +25,13 @@ either n false x y p q = q
 welcome_number : (k : Call) (c : ClientState) (plan : Plan) (count version : ℕ) →
     (takes_welcome k c plan count version).state.number ≡ c.number
 welcome_number call.Idle c plan count version = refl
-welcome_number (call.Hello key) c plan count version = either c.number _ _ _ refl refl
+welcome_number call.Hello c plan count version = either c.number _ _ _ refl refl
 welcome_number (call.Sync s v p) c plan count version = refl
 welcome_number (call.Delta since) c plan count version = refl
 welcome_number (call.Changes since) c plan count version = refl
-welcome_number (call.Ask i x v m) c plan count version = refl
-welcome_number (call.Edit i b) c plan count version = refl
-welcome_number (call.Append b) c plan count version = refl
+welcome_number (call.Ask i v m) c plan count version = refl
+welcome_number call.Edit c plan count version = refl
+welcome_number call.Append c plan count version = refl
 welcome_number call.Publish c plan count version = refl
 
 asked_part_number : (known : Option ServerInfo) (s : Scheme) (c : ClientState) (v p scheme version part : ℕ) (words : List ℕ) →
@@ -42,13 +42,13 @@ asked_part_number (Some k) s c v p scheme version part words =
 
 part_number : (k : Call) (c : ClientState) (scheme version part : ℕ) (words : List ℕ) → (takes_part k c scheme version part words).state.number ≡ c.number
 part_number call.Idle c scheme version part words = refl
-part_number (call.Hello key) c scheme version part words = refl
+part_number call.Hello c scheme version part words = refl
 part_number (call.Sync s v p) c scheme version part words = asked_part_number c.known s c v p scheme version part words
 part_number (call.Delta since) c scheme version part words = refl
 part_number (call.Changes since) c scheme version part words = refl
-part_number (call.Ask i x v m) c scheme version part words = refl
-part_number (call.Edit i b) c scheme version part words = refl
-part_number (call.Append b) c scheme version part words = refl
+part_number (call.Ask i v m) c scheme version part words = refl
+part_number call.Edit c scheme version part words = refl
+part_number call.Append c scheme version part words = refl
 part_number call.Publish c scheme version part words = refl
 
 answered_number : (known : Option ServerInfo) (hint : Option Hint) (c : ClientState) (i v m scheme version : ℕ) (words : List ℕ) →
@@ -59,13 +59,13 @@ answered_number (Some k) (Some h) c i v m scheme version words = either c.number
 
 answer_number : (k : Call) (c : ClientState) (scheme version : ℕ) (words : List ℕ) → (takes_answer k c scheme version words).state.number ≡ c.number
 answer_number call.Idle c scheme version words = refl
-answer_number (call.Hello key) c scheme version words = refl
+answer_number call.Hello c scheme version words = refl
 answer_number (call.Sync s v p) c scheme version words = refl
 answer_number (call.Delta since) c scheme version words = refl
 answer_number (call.Changes since) c scheme version words = refl
-answer_number (call.Ask i x v m) c scheme version words = answered_number c.known c.hint c i v m scheme version words
-answer_number (call.Edit i b) c scheme version words = refl
-answer_number (call.Append b) c scheme version words = refl
+answer_number (call.Ask i v m) c scheme version words = answered_number c.known c.hint c i v m scheme version words
+answer_number call.Edit c scheme version words = refl
+answer_number call.Append c scheme version words = refl
 answer_number call.Publish c scheme version words = refl
 
 staled_number : (known : Option ServerInfo) (later c : ClientState) (asked version count : ℕ) → later.number ≡ c.number →
@@ -75,13 +75,13 @@ staled_number (Some k) later c asked version count e = either c.number _ _ _ e r
 
 stale_number : (k : Call) (c : ClientState) (version count : ℕ) → (takes_stale k c version count).state.number ≡ c.number
 stale_number call.Idle c version count = refl
-stale_number (call.Hello key) c version count = refl
+stale_number call.Hello c version count = refl
 stale_number (call.Sync s v p) c version count = staled_number c.known (record c { parts = [] }) c v version count refl
 stale_number (call.Delta since) c version count = refl
 stale_number (call.Changes since) c version count = refl
-stale_number (call.Ask i x v m) c version count = staled_number c.known c c v version count refl
-stale_number (call.Edit i b) c version count = refl
-stale_number (call.Append b) c version count = refl
+stale_number (call.Ask i v m) c version count = staled_number c.known c c v version count refl
+stale_number call.Edit c version count = refl
+stale_number call.Append c version count = refl
 stale_number call.Publish c version count = refl
 
 moved_number : (known : Option ServerInfo) (hint : Option Hint) (c : ClientState) (asked since now count : ℕ) (rows : RowList) →
@@ -92,13 +92,13 @@ moved_number (Some k) (Some h) c asked since now count rows = either c.number _ 
 
 delta_number : (k : Call) (c : ClientState) (since now count : ℕ) (rows : RowList) → (takes_delta k c since now count rows).state.number ≡ c.number
 delta_number call.Idle c since now count rows = refl
-delta_number (call.Hello key) c since now count rows = refl
+delta_number call.Hello c since now count rows = refl
 delta_number (call.Sync s v p) c since now count rows = refl
 delta_number (call.Delta asked) c since now count rows = moved_number c.known c.hint c asked since now count rows
 delta_number (call.Changes asked) c since now count rows = refl
-delta_number (call.Ask i x v m) c since now count rows = refl
-delta_number (call.Edit i b) c since now count rows = refl
-delta_number (call.Append b) c since now count rows = refl
+delta_number (call.Ask i v m) c since now count rows = refl
+delta_number call.Edit c since now count rows = refl
+delta_number call.Append c since now count rows = refl
 delta_number call.Publish c since now count rows = refl
 
 changed_number : (known : Option ServerInfo) (hint : Option Hint) (c : ClientState) (asked since now count : ℕ) (entries : List ℕ) →
@@ -110,13 +110,13 @@ changed_number (Some k) (Some h) c asked since now count entries = either c.numb
 changes_number : (k : Call) (c : ClientState) (since now count : ℕ) (entries : List ℕ) →
     (takes_changes k c since now count entries).state.number ≡ c.number
 changes_number call.Idle c since now count entries = refl
-changes_number (call.Hello key) c since now count entries = refl
+changes_number call.Hello c since now count entries = refl
 changes_number (call.Sync s v p) c since now count entries = refl
 changes_number (call.Delta asked) c since now count entries = refl
 changes_number (call.Changes asked) c since now count entries = changed_number c.known c.hint c asked since now count entries
-changes_number (call.Ask i x v m) c since now count entries = refl
-changes_number (call.Edit i b) c since now count entries = refl
-changes_number (call.Append b) c since now count entries = refl
+changes_number (call.Ask i v m) c since now count entries = refl
+changes_number call.Edit c since now count entries = refl
+changes_number call.Append c since now count entries = refl
 changes_number call.Publish c since now count entries = refl
 
 by_parts_number : (known : Option ServerInfo) (c : ClientState) (version count : ℕ) → (goes_by_parts known c version count).state.number ≡ c.number
@@ -125,35 +125,35 @@ by_parts_number (Some k) c version count = either c.number _ _ _ refl refl
 
 no_delta_number : (k : Call) (c : ClientState) (version count : ℕ) → (takes_no_delta k c version count).state.number ≡ c.number
 no_delta_number call.Idle c version count = refl
-no_delta_number (call.Hello key) c version count = refl
+no_delta_number call.Hello c version count = refl
 no_delta_number (call.Sync s v p) c version count = refl
 no_delta_number (call.Delta asked) c version count = by_parts_number c.known c version count
 no_delta_number (call.Changes asked) c version count = by_parts_number c.known c version count
-no_delta_number (call.Ask i x v m) c version count = refl
-no_delta_number (call.Edit i b) c version count = refl
-no_delta_number (call.Append b) c version count = refl
+no_delta_number (call.Ask i v m) c version count = refl
+no_delta_number call.Edit c version count = refl
+no_delta_number call.Append c version count = refl
 no_delta_number call.Publish c version count = refl
 
 done_number : (k : Call) (c : ClientState) (version : ℕ) → (takes_done k c version).state.number ≡ c.number
 done_number call.Idle c version = refl
-done_number (call.Hello key) c version = refl
+done_number call.Hello c version = refl
 done_number (call.Sync s v p) c version = refl
 done_number (call.Delta since) c version = refl
 done_number (call.Changes since) c version = refl
-done_number (call.Ask i x v m) c version = refl
-done_number (call.Edit i b) c version = refl
-done_number (call.Append b) c version = refl
+done_number (call.Ask i v m) c version = refl
+done_number call.Edit c version = refl
+done_number call.Append c version = refl
 done_number call.Publish c version = refl
 
 refused_number : (k : Call) (c : ClientState) (code : ℕ) → (takes_refused k c code).state.number ≡ c.number
 refused_number call.Idle c code = refl
-refused_number (call.Hello key) c code = refl
+refused_number call.Hello c code = refl
 refused_number (call.Sync s v p) c code = refl
 refused_number (call.Delta since) c code = refl
 refused_number (call.Changes since) c code = refl
-refused_number (call.Ask i x v m) c code = refl
-refused_number (call.Edit i b) c code = refl
-refused_number (call.Append b) c code = refl
+refused_number (call.Ask i v m) c code = refl
+refused_number call.Edit c code = refl
+refused_number call.Append c code = refl
 refused_number call.Publish c code = refl
 
 pub takes_number : (c : ClientState) (f : Frame) → (reaction_to_reply c f).state.number ≡ c.number

@@ -1,5 +1,5 @@
 -- A client that asks for a record wants no more of a SimplePIR hint than the record's rows.
-use Rattle.std.proofs.Common.{◌≡◌, ◌+◌, ◌^◌, ℕ, Bool, true, false, cond, List, [], ◌∷◌, Option, Some, None, refl, sym, ap, subst, ◌∙◌, inl, inr}
+use Rattle.std.proofs.Common.{◌≡◌, ◌^◌, ℕ, Bool, true, false, cond, List, [], ◌∷◌, Option, Some, None, refl, sym, ap, subst, ◌∙◌, inl, inr}
 use Rattle.std.specs.Prelude.{◌⊎◌, ◌==◌, is_some, nat_lt}
 use Rattle.frame_codec.specs.declared.frame.Frame.{Frame}
 use Rattle.frame_codec.specs.declared.frame.Frame.TheVariants as frame
@@ -54,19 +54,19 @@ reply_to_ask c i v n (frame.Stale version count) = reaction_to_stale c.known c c
 reply_to_ask c i v n (frame.Refused code) = ended c (event.Refused code)
 reply_to_ask c i v n _ = faulty c BadReply
 
-when_asked : (c : ClientState) (i v n : ℕ) (s : Scheme) (f : Frame) → c.call ≡ call.Ask i s v n → reaction_to_reply c f ≡ reply_to_ask c i v n f
+when_asked : (c : ClientState) (i v n : ℕ) (f : Frame) → c.call ≡ call.Ask i v n → reaction_to_reply c f ≡ reply_to_ask c i v n f
 unfolding reply_to_ask
-when_asked c i v n s (frame.Welcome profile width record_len groups count version dimension seed) e =
+when_asked c i v n (frame.Welcome profile width record_len groups count version dimension seed) e =
     ap (λ (k : Call). takes_welcome k c (plan_given profile width record_len groups dimension seed) count version) e
-when_asked c i v n s (frame.HintPart scheme version part words) e = ap (λ (k : Call). takes_part k c scheme version part words) e
-when_asked c i v n s (frame.Answer scheme version words) e = ap (λ (k : Call). takes_answer k c scheme version words) e
-when_asked c i v n s (frame.Stale version count) e = ap (λ (k : Call). takes_stale k c version count) e
-when_asked c i v n s (frame.Delta since now count rows) e = ap (λ (k : Call). takes_delta k c since now count rows) e
-when_asked c i v n s (frame.Changes since now count entries) e = ap (λ (k : Call). takes_changes k c since now count entries) e
-when_asked c i v n s (frame.NoDelta version count) e = ap (λ (k : Call). takes_no_delta k c version count) e
-when_asked c i v n s (frame.Done version) e = ap (λ (k : Call). takes_done k c version) e
-when_asked c i v n s (frame.Refused code) e = ap (λ (k : Call). takes_refused k c code) e
-when_asked c i v n s _ e = refl
+when_asked c i v n (frame.HintPart scheme version part words) e = ap (λ (k : Call). takes_part k c scheme version part words) e
+when_asked c i v n (frame.Answer scheme version words) e = ap (λ (k : Call). takes_answer k c scheme version words) e
+when_asked c i v n (frame.Stale version count) e = ap (λ (k : Call). takes_stale k c version count) e
+when_asked c i v n (frame.Delta since now count rows) e = ap (λ (k : Call). takes_delta k c since now count rows) e
+when_asked c i v n (frame.Changes since now count entries) e = ap (λ (k : Call). takes_changes k c since now count entries) e
+when_asked c i v n (frame.NoDelta version count) e = ap (λ (k : Call). takes_no_delta k c version count) e
+when_asked c i v n (frame.Done version) e = ap (λ (k : Call). takes_done k c version) e
+when_asked c i v n (frame.Refused code) e = ap (λ (k : Call). takes_refused k c code) e
+when_asked c i v n _ e = refl
 
 answer_alike : (k : ServerInfo) (h part : Hint) (c : ClientState) (i v n scheme version : ℕ) (words : List ℕ) → HasRowsOf k h i part →
     answered (Some k) (Some part) (holding c part) i v n scheme version words ≡ taken_holding (answered (Some k) (Some h) c i v n scheme version words) part
@@ -178,13 +178,13 @@ settled_runs k part (f ∷ fs) s =
     ap (λ (x : Course). runs x fs) (settled_alike k part f s) ∙ settled_runs (course_more k f) part fs (stays_settled k f s)
 
 -- the replies to an ask
-ask_runs : (k : ServerInfo) (h part : Hint) (c : ClientState) (i v n : ℕ) (s : Scheme) (fs : List Frame) → HasRowsOf k h i part → c.known ≡ Some k →
-    c.hint ≡ Some h → c.call ≡ call.Ask i s v n → takes_all (holding c part) fs ≡ course_holding (takes_all c fs) part
-ask_runs k h part c i v n s [] r known hint asked = refl
-ask_runs k h part c i v n s (f ∷ fs) r known hint asked =
-    let whole : reaction_to_reply c f ≡ reply_to_ask c i v n f = when_asked c i v n s f asked in
+ask_runs : (k : ServerInfo) (h part : Hint) (c : ClientState) (i v n : ℕ) (fs : List Frame) → HasRowsOf k h i part → c.known ≡ Some k →
+    c.hint ≡ Some h → c.call ≡ call.Ask i v n → takes_all (holding c part) fs ≡ course_holding (takes_all c fs) part
+ask_runs k h part c i v n [] r known hint asked = refl
+ask_runs k h part c i v n (f ∷ fs) r known hint asked =
+    let whole : reaction_to_reply c f ≡ reply_to_ask c i v n f = when_asked c i v n f asked in
     let alike : reaction_to_reply (holding c part) f ≡ taken_holding (reaction_to_reply c f) part =
-    when_asked (holding c part) i v n s f asked ∙ ask_alike k h part c i v n f r known hint ∙ sym (ap (λ (t : AfterReply). taken_holding t part) whole) in
+    when_asked (holding c part) i v n f asked ∙ ask_alike k h part c i v n f r known hint ∙ sym (ap (λ (t : AfterReply). taken_holding t part) whole) in
     let settled : IsSettled (course_after_reply (start c) (reaction_to_reply c f)) =
     (let P : AfterReply → Type 0 = λ t. IsSettled (course_after_reply (start c) t) in subst P (sym whole) (ask_settles c i v n f (start c))) in
     ap (λ (t : AfterReply). runs (course_after_reply (start (holding c part)) t) fs) alike
@@ -211,11 +211,8 @@ ready_alike k h part c i r known hint =
 pub rows_of_the_record_suffice : RowsOfTheRecordSuffice
 rows_of_the_record_suffice c k h part i known hint r =
     let scheme : part.scheme ≡ scheme_held c.hint = r.scheme ∙ sym (ap scheme_held hint ∙ r.simple) in
-    let state : state_after_call (Ask i) (holding c part) ≡ holding (state_after_call (Ask i) c) part =
-    ap (λ (s : Scheme). record c { hint = Some part; call = call.Ask i s (known_version c.known) c.number; number = c.number + 1 }) scheme in
     record {
       refusal = ap (refusal_by c i) (ready_alike k h part c i r known hint);
       frame = ap (λ (s : Scheme). frame.Query (scheme_byte s) (known_version c.known) (call_words c.known s c.seed c.number i)) scheme;
-      replies = λ fs. ap (λ (x : ClientState). takes_all x fs) state
-          ∙ ask_runs k h part (state_after_call (Ask i) c) i (known_version c.known) c.number (scheme_held c.hint) fs r known hint refl;
+      replies = λ fs. ask_runs k h part (state_after_call (Ask i) c) i (known_version c.known) c.number fs r known hint refl;
     }

@@ -23,7 +23,7 @@ use Rattle.client_core.specs.declared.state.Call.TheVariants as call
 use Rattle.client_core.specs.declared.state.CallFault.{CallFault}
 use Rattle.client_core.specs.declared.state.CallFault.TheVariants.{NotReady, Busy, BadIndex, SeedUsedUp, Failed, AlreadyWelcome}
 use Rattle.client_core.specs.States.{shape_known, is_idle, is_ready, known_version, known_count, scheme_held, delta_base, is_wide_client}
-use Rattle.client_core.specs.Calls.{ClientCall, Hello, Sync, Ask, Edit, Append, Publish, call_since, sync_begun, state_after_call, call_frame, call_words, refusal, spent}
+use Rattle.client_core.specs.Calls.{ClientCall, Hello, Sync, Ask, Edit, Append, Publish, frame_since, sync_frame, sync_begun, state_after_call, call_frame, call_words, refusal, spent}
 use Rattle.client_core.specs.Replies.{AfterReply, plan_given, reaction_to_reply, is_accepted_welcome, takes_welcome, is_part, more_parts, takes_asked_part, takes_part, is_answer, answered, takes_answer, is_current, with_current, reaction_to_stale, takes_stale, row_numbers, is_delta, moved, takes_delta, is_changes, changed, takes_changes, goes_by_parts, takes_no_delta, takes_done, takes_refused}
 use Rattle.client_core.specs.Feeding.{sends_of}
 use Rattle.client_core.specs.Laws.{Happening, Accepted, TurnedDown, Lacking, Replied as Reply, Failing, after}
@@ -48,25 +48,24 @@ base_named Simple (Some h) = refl
 base_named Double None = refl
 base_named Double (Some h) = refl
 
-since_shaped : (wide : Bool) (since : ℕ) (c : ClientState) → shape_of_frame (call_frame c (call_since wide since)) ≡ frame_shape (kind_since wide) 8
-since_shaped true since c = sized (frame.ChangesAsk since)
-since_shaped false since c = sized (frame.DeltaAsk since)
+since_shaped : (wide : Bool) (since : ℕ) → shape_of_frame (frame_since wide since) ≡ frame_shape (kind_since wide) 8
+since_shaped true since = sized (frame.ChangesAsk since)
+since_shaped false since = sized (frame.DeltaAsk since)
 
 sync_shaped : (base : Option ℕ) (s : Scheme) (c : ClientState) →
-    shape_of_frame (call_frame (sync_begun base s c) (sync_begun base s c).call) ≡ sync_shape (is_wide_client c) base
+    shape_of_frame (sync_frame base s c) ≡ sync_shape (is_wide_client c) base
 sync_shaped None s c = sized (frame.HintAsk (scheme_byte s) (known_version c.known) 0)
-sync_shaped (Some since) s c = since_shaped (is_wide_client c) since (sync_begun (Some since) s c)
+sync_shaped (Some since) s c = since_shaped (is_wide_client c) since
 
 sync_outlined : (base : Option ℕ) (s : Scheme) (c : ClientState) → outline (sync_begun base s c) ≡ outline_of_sync base s (outline c)
 sync_outlined None s c = refl
 sync_outlined (Some since) s c = refl
 
-call_shaped : (c : ClientState) (want : ClientCall) → HasWholeKey want → shape_of_frame (call_frame (state_after_call want c) (state_after_call want c).call)
-    ≡ call_shape (outline c) (blank_call want)
-call_shaped c (Hello key) whole = sized (call_frame (state_after_call (Hello key) c) (call.Hello key)) ∙ ap (λ (x : ℕ). frame_shape 2 (2 + x)) whole
+call_shaped : (c : ClientState) (want : ClientCall) → HasWholeKey want → shape_of_frame (call_frame want c) ≡ call_shape (outline c) (blank_call want)
+call_shaped c (Hello key) whole = sized (call_frame (Hello key) c) ∙ ap (λ (x : ℕ). frame_shape 2 (2 + x)) whole
 call_shaped c (Sync scheme) whole = sync_shaped (delta_base scheme c.hint) scheme c ∙ ap (sync_shape (is_wide_client c)) (base_named scheme c.hint)
 call_shaped c (Ask i) whole =
-    sized (call_frame (state_after_call (Ask i) c) (state_after_call (Ask i) c).call)
+    sized (call_frame (Ask i) c)
     ∙ ap (λ (x : ℕ). frame_shape 5 (9 + 4 * x)) (asked_length c.known c.hint c.seed c.number i)
 call_shaped c (Edit i bytes) whole = sized (frame.Edit i bytes)
 call_shaped c (Append bytes) whole = sized (frame.Append bytes)
@@ -101,13 +100,13 @@ either false x y v w p q = q
 welcome_reacts : (k : Call) (c : ClientState) (plan : Plan) (count version : ℕ) →
     reacted (takes_welcome k c plan count version) ≡ after_welcome (awaited k) (outline c) plan count version
 welcome_reacts call.Idle c plan count version = refl
-welcome_reacts (call.Hello key) c plan count version = either (is_accepted_welcome c.profile plan count version) _ _ _ _ refl refl
+welcome_reacts call.Hello c plan count version = either (is_accepted_welcome c.profile plan count version) _ _ _ _ refl refl
 welcome_reacts (call.Sync s v p) c plan count version = refl
 welcome_reacts (call.Delta since) c plan count version = refl
 welcome_reacts (call.Changes since) c plan count version = refl
-welcome_reacts (call.Ask i s v m) c plan count version = refl
-welcome_reacts (call.Edit i b) c plan count version = refl
-welcome_reacts (call.Append b) c plan count version = refl
+welcome_reacts (call.Ask i v m) c plan count version = refl
+welcome_reacts call.Edit c plan count version = refl
+welcome_reacts call.Append c plan count version = refl
 welcome_reacts call.Publish c plan count version = refl
 
 next_asked : (s : Scheme) (k : ServerInfo) (c : ClientState) (v p : ℕ) (words : List ℕ) →
@@ -130,13 +129,13 @@ asked_part_reacts (Some k) s c v p scheme version part words =
 part_reacts : (k : Call) (c : ClientState) (scheme version part : ℕ) (words : List ℕ) →
     reacted (takes_part k c scheme version part words) ≡ after_part (awaited k) (outline c) scheme version part (length words)
 part_reacts call.Idle c scheme version part words = refl
-part_reacts (call.Hello key) c scheme version part words = refl
+part_reacts call.Hello c scheme version part words = refl
 part_reacts (call.Sync s v p) c scheme version part words = asked_part_reacts c.known s c v p scheme version part words
 part_reacts (call.Delta since) c scheme version part words = refl
 part_reacts (call.Changes since) c scheme version part words = refl
-part_reacts (call.Ask i s v m) c scheme version part words = refl
-part_reacts (call.Edit i b) c scheme version part words = refl
-part_reacts (call.Append b) c scheme version part words = refl
+part_reacts (call.Ask i v m) c scheme version part words = refl
+part_reacts call.Edit c scheme version part words = refl
+part_reacts call.Append c scheme version part words = refl
 part_reacts call.Publish c scheme version part words = refl
 
 answered_reacts : (known : Option ServerInfo) (hint : Option Hint) (c : ClientState) (i v m scheme version : ℕ) (words : List ℕ)
@@ -148,13 +147,13 @@ answered_reacts (Some k) (Some h) c i v m scheme version words = either (is_answ
 answer_reacts : (k : Call) (c : ClientState) (scheme version : ℕ) (words : List ℕ) →
     reacted (takes_answer k c scheme version words) ≡ after_answer (awaited k) (outline c) scheme version (length words)
 answer_reacts call.Idle c scheme version words = refl
-answer_reacts (call.Hello key) c scheme version words = refl
+answer_reacts call.Hello c scheme version words = refl
 answer_reacts (call.Sync s v p) c scheme version words = refl
 answer_reacts (call.Delta since) c scheme version words = refl
 answer_reacts (call.Changes since) c scheme version words = refl
-answer_reacts (call.Ask i s v m) c scheme version words = answered_reacts c.known c.hint c i v m scheme version words
-answer_reacts (call.Edit i b) c scheme version words = refl
-answer_reacts (call.Append b) c scheme version words = refl
+answer_reacts (call.Ask i v m) c scheme version words = answered_reacts c.known c.hint c i v m scheme version words
+answer_reacts call.Edit c scheme version words = refl
+answer_reacts call.Append c scheme version words = refl
 answer_reacts call.Publish c scheme version words = refl
 
 staled_reacts : (known : Option ServerInfo) (dropped c : ClientState) (asked version count : ℕ) →
@@ -165,13 +164,13 @@ staled_reacts (Some k) dropped c asked version count =
 
 stale_reacts : (k : Call) (c : ClientState) (version count : ℕ) → reacted (takes_stale k c version count) ≡ after_stale (awaited k) (outline c) version count
 stale_reacts call.Idle c version count = refl
-stale_reacts (call.Hello key) c version count = refl
+stale_reacts call.Hello c version count = refl
 stale_reacts (call.Sync s v p) c version count = staled_reacts c.known (record c { parts = [] }) c v version count
 stale_reacts (call.Delta since) c version count = refl
 stale_reacts (call.Changes since) c version count = refl
-stale_reacts (call.Ask i s v m) c version count = staled_reacts c.known c c v version count
-stale_reacts (call.Edit i b) c version count = refl
-stale_reacts (call.Append b) c version count = refl
+stale_reacts (call.Ask i v m) c version count = staled_reacts c.known c c v version count
+stale_reacts call.Edit c version count = refl
+stale_reacts call.Append c version count = refl
 stale_reacts call.Publish c version count = refl
 
 moved_reacts : (known : Option ServerInfo) (hint : Option Hint) (c : ClientState) (asked since now count : ℕ) (rows : RowList) →
@@ -185,13 +184,13 @@ moved_reacts (Some k) (Some h) c asked since now count rows =
 delta_reacts : (k : Call) (c : ClientState) (since now count : ℕ) (rows : RowList) →
     reacted (takes_delta k c since now count rows) ≡ after_delta (awaited k) (outline c) since now count rows.dimension (row_numbers rows)
 delta_reacts call.Idle c since now count rows = refl
-delta_reacts (call.Hello key) c since now count rows = refl
+delta_reacts call.Hello c since now count rows = refl
 delta_reacts (call.Sync s v p) c since now count rows = refl
 delta_reacts (call.Delta asked) c since now count rows = moved_reacts c.known c.hint c asked since now count rows
 delta_reacts (call.Changes asked) c since now count rows = refl
-delta_reacts (call.Ask i s v m) c since now count rows = refl
-delta_reacts (call.Edit i b) c since now count rows = refl
-delta_reacts (call.Append b) c since now count rows = refl
+delta_reacts (call.Ask i v m) c since now count rows = refl
+delta_reacts call.Edit c since now count rows = refl
+delta_reacts call.Append c since now count rows = refl
 delta_reacts call.Publish c since now count rows = refl
 
 changed_reacts : (known : Option ServerInfo) (hint : Option Hint) (c : ClientState) (asked since now count : ℕ) (entries : List ℕ) →
@@ -203,13 +202,13 @@ changed_reacts (Some k) (Some h) c asked since now count entries = either (is_ch
 changes_react : (k : Call) (c : ClientState) (since now count : ℕ) (entries : List ℕ) →
     reacted (takes_changes k c since now count entries) ≡ after_changes (awaited k) (outline c) since now count entries
 changes_react call.Idle c since now count entries = refl
-changes_react (call.Hello key) c since now count entries = refl
+changes_react call.Hello c since now count entries = refl
 changes_react (call.Sync s v p) c since now count entries = refl
 changes_react (call.Delta asked) c since now count entries = refl
 changes_react (call.Changes asked) c since now count entries = changed_reacts c.known c.hint c asked since now count entries
-changes_react (call.Ask i s v m) c since now count entries = refl
-changes_react (call.Edit i b) c since now count entries = refl
-changes_react (call.Append b) c since now count entries = refl
+changes_react (call.Ask i v m) c since now count entries = refl
+changes_react call.Edit c since now count entries = refl
+changes_react call.Append c since now count entries = refl
 changes_react call.Publish c since now count entries = refl
 
 by_parts_reacts : (known : Option ServerInfo) (c : ClientState) (version count : ℕ) →
@@ -227,35 +226,35 @@ by_parts_reacts (Some k) c version count =
 no_delta_reacts : (k : Call) (c : ClientState) (version count : ℕ) →
     reacted (takes_no_delta k c version count) ≡ after_no_delta (awaited k) (outline c) version count
 no_delta_reacts call.Idle c version count = refl
-no_delta_reacts (call.Hello key) c version count = refl
+no_delta_reacts call.Hello c version count = refl
 no_delta_reacts (call.Sync s v p) c version count = refl
 no_delta_reacts (call.Delta asked) c version count = by_parts_reacts c.known c version count
 no_delta_reacts (call.Changes asked) c version count = by_parts_reacts c.known c version count
-no_delta_reacts (call.Ask i s v m) c version count = refl
-no_delta_reacts (call.Edit i b) c version count = refl
-no_delta_reacts (call.Append b) c version count = refl
+no_delta_reacts (call.Ask i v m) c version count = refl
+no_delta_reacts call.Edit c version count = refl
+no_delta_reacts call.Append c version count = refl
 no_delta_reacts call.Publish c version count = refl
 
 done_reacts : (k : Call) (c : ClientState) (version : ℕ) → reacted (takes_done k c version) ≡ after_done (awaited k) (outline c)
 done_reacts call.Idle c version = refl
-done_reacts (call.Hello key) c version = refl
+done_reacts call.Hello c version = refl
 done_reacts (call.Sync s v p) c version = refl
 done_reacts (call.Delta since) c version = refl
 done_reacts (call.Changes since) c version = refl
-done_reacts (call.Ask i s v m) c version = refl
-done_reacts (call.Edit i b) c version = refl
-done_reacts (call.Append b) c version = refl
+done_reacts (call.Ask i v m) c version = refl
+done_reacts call.Edit c version = refl
+done_reacts call.Append c version = refl
 done_reacts call.Publish c version = refl
 
 refused_reacts : (k : Call) (c : ClientState) (code : ℕ) → reacted (takes_refused k c code) ≡ after_refused (awaited k) (outline c)
 refused_reacts call.Idle c code = refl
-refused_reacts (call.Hello key) c code = refl
+refused_reacts call.Hello c code = refl
 refused_reacts (call.Sync s v p) c code = refl
 refused_reacts (call.Delta since) c code = refl
 refused_reacts (call.Changes since) c code = refl
-refused_reacts (call.Ask i s v m) c code = refl
-refused_reacts (call.Edit i b) c code = refl
-refused_reacts (call.Append b) c code = refl
+refused_reacts (call.Ask i v m) c code = refl
+refused_reacts call.Edit c code = refl
+refused_reacts call.Append c code = refl
 refused_reacts call.Publish c code = refl
 
 reply_reacts : (c : ClientState) (f : Frame) → reacted (reaction_to_reply c f) ≡ after_reply (outline c) (blank_reply f)
@@ -327,13 +326,13 @@ refused _ x = if x.failed then Some Failed else (if is_some x.known then (if no_
 idle_same : (k : Call) → is_idle k ≡ no_reply (awaited k)
 unfolding no_reply
 idle_same call.Idle = refl
-idle_same (call.Hello key) = refl
+idle_same call.Hello = refl
 idle_same (call.Sync s v p) = refl
 idle_same (call.Delta since) = refl
 idle_same (call.Changes since) = refl
-idle_same (call.Ask i s v m) = refl
-idle_same (call.Edit i b) = refl
-idle_same (call.Append b) = refl
+idle_same (call.Ask i v m) = refl
+idle_same call.Edit = refl
+idle_same call.Append = refl
 idle_same call.Publish = refl
 
 ready_same : (known : Option ServerInfo) (hint : Option Hint) → is_ready known hint ≡ ready known (hint_name hint)

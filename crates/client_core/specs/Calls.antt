@@ -34,16 +34,13 @@ change_refusal c = if c.failed then Some Failed else (if is_some c.known then (i
 -- the first check that applies refuses a call
 abbrev pub refusal : ClientCall → ClientState → Option CallFault
 refusal (Hello key) c = hello_refusal c
-refusal (Sync scheme) c = change_refusal c
 refusal (Ask i) c =
     if c.failed then Some Failed
     else (if is_ready c.known c.hint then (
     if is_idle c.call then (
     if nat_lt i (known_count c.known) then (
     if nat_lt c.number (2 ^ 62) then None else Some SeedUsedUp) else Some BadIndex) else Some Busy) else Some NotReady)
-refusal (Edit i bytes) c = change_refusal c
-refusal (Append bytes) c = change_refusal c
-refusal Publish c = change_refusal c
+refusal _ c = change_refusal c
 
 -- the call that asks for what changed since a version: for records in a wide store, for rows of the
 -- hint in an ordinary one
@@ -52,18 +49,18 @@ call_since true since = call.Changes since
 call_since false since = call.Delta since
 
 -- a sync begins: by what changed since a version, and the hint is kept meanwhile; or by the parts
--- of the last version known, and it is dropped
+-- of the hint of the last version known, and the hint held is dropped
 abbrev pub sync_begun : Option ℕ → Scheme → ClientState → ClientState
 sync_begun (Some since) scheme c = record c { call = call_since (is_wide_client c) since }
 sync_begun None scheme c = record c { call = call.Sync scheme (known_version c.known) 0; hint = None; parts = [] }
 
 -- the state after an accepted call
 abbrev pub state_after_call : ClientCall → ClientState → ClientState
-state_after_call (Hello key) c = record c { call = call.Hello key }
+state_after_call (Hello key) c = record c { call = call.Hello }
 state_after_call (Sync scheme) c = sync_begun (delta_base scheme c.hint) scheme c
-state_after_call (Ask i) c = record c { call = call.Ask i (scheme_held c.hint) (known_version c.known) c.number; number = c.number + 1 }
-state_after_call (Edit i bytes) c = record c { call = call.Edit i bytes }
-state_after_call (Append bytes) c = record c { call = call.Append bytes }
+state_after_call (Ask i) c = record c { call = call.Ask i (known_version c.known) c.number; number = c.number + 1 }
+state_after_call (Edit i bytes) c = record c { call = call.Edit }
+state_after_call (Append bytes) c = record c { call = call.Append }
 state_after_call Publish c = record c { call = call.Publish }
 
 -- the state after a call that passed its checks and found no memory: only the number of a retrieval
@@ -72,29 +69,39 @@ abbrev pub spent : ClientCall → ClientState → ClientState
 spent (Ask i) c = record c { number = c.number + 1 }
 spent _ c = c
 
--- the words of the query for a record
+-- the words of the query for a record; none before the Welcome
 abbrev pub call_words : Option ServerInfo → Scheme → List ℕ → ℕ → ℕ → List ℕ
 call_words None scheme seed number i = []
 call_words (Some k) scheme seed number i = query_words scheme (shape_known k) k.plan.dimension k.plan.seed seed number i
 
--- the frame of the outstanding call. An idle client has none, and any stands here
-abbrev pub call_frame : ClientState → Call → Frame
-call_frame c call.Idle = frame.Bye
-call_frame c (call.Hello key) = frame.Hello c.profile key
-call_frame c (call.Sync scheme version part) = frame.HintAsk (scheme_byte scheme) version part
-call_frame c (call.Delta since) = frame.DeltaAsk since
-call_frame c (call.Changes since) = frame.ChangesAsk since
-call_frame c (call.Ask i scheme version number) = frame.Query (scheme_byte scheme) version (call_words c.known scheme c.seed number i)
-call_frame c (call.Edit i bytes) = frame.Edit i bytes
-call_frame c (call.Append bytes) = frame.Append bytes
-call_frame c call.Publish = frame.Publish
+-- the frame that asks for what changed since a version: for records in a wide store, for rows of
+-- the hint in an ordinary one
+abbrev pub frame_since : Bool → ℕ → Frame
+frame_since true since = frame.ChangesAsk since
+frame_since false since = frame.DeltaAsk since
+
+-- the first frame of a sync: it asks for what changed since a version, or for the first part of the
+-- hint of the last version known
+abbrev pub sync_frame : Option ℕ → Scheme → ClientState → Frame
+sync_frame (Some since) scheme c = frame_since (is_wide_client c) since
+sync_frame None scheme c = frame.HintAsk (scheme_byte scheme) (known_version c.known) 0
+
+-- the frame that an accepted call sends
+abbrev pub call_frame : ClientCall → ClientState → Frame
+call_frame (Hello key) c = frame.Hello c.profile key
+call_frame (Sync scheme) c = sync_frame (delta_base scheme c.hint) scheme c
+call_frame (Ask i) c =
+    frame.Query (scheme_byte (scheme_held c.hint)) (known_version c.known) (call_words c.known (scheme_held c.hint) c.seed c.number i)
+call_frame (Edit i bytes) c = frame.Edit i bytes
+call_frame (Append bytes) c = frame.Append bytes
+call_frame Publish c = frame.Publish
 
 -- an accepted call: no check refuses it, and the bytes to send are its frame's
 pub record Accepts (old : ClientState) (want : ClientCall) (new : ClientState) (bytes : List ℕ) : Type 0 where
   pub may : refusal want old ≡ None
   pub state : new ≡ state_after_call want old
-  pub written : bytes ≡ encoding (call_frame new new.call)
-  pub fits : IsFrame (call_frame new new.call)
+  pub written : bytes ≡ encoding (call_frame want old)
+  pub fits : IsFrame (call_frame want old)
 
 -- a refused call: by the first check that applies, and nothing changes; or memory was refused
 abbrev pub Refuses : ClientState → ClientCall → CallFault → ClientState → Type 0

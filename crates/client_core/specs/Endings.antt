@@ -11,8 +11,8 @@ use Rattle.client_core.specs.Feeding.{Client, FeedsClient}
 -- The events that a call can end with: those of its own kind, for what was asked; or a refusal. A
 -- sync by delta or by changed records may go on by parts, and then become stale.
 abbrev pub Ends : Call → Event → Type 0
-Ends (Hello key) (Welcomed version) = Unit {0}
-Ends (Hello key) (Refused code) = Unit {0}
+Ends Hello (Welcomed version) = Unit {0}
+Ends Hello (Refused code) = Unit {0}
 Ends (Sync scheme asked part) (Synced of version) = (of ≡ scheme) × (version ≡ asked)
 Ends (Sync scheme asked part) (Stale version) = version ≢ asked
 Ends (Sync scheme asked part) (Refused code) = Unit {0}
@@ -22,14 +22,14 @@ Ends (Delta since) (Refused code) = Unit {0}
 Ends (Changes since) (Synced of version) = of ≡ Simple
 Ends (Changes since) (Stale version) = Unit {0}
 Ends (Changes since) (Refused code) = Unit {0}
-Ends (Ask i scheme asked number) (Retrieved index version bytes) = (index ≡ i) × (version ≡ asked)
-Ends (Ask i scheme asked number) (Unreadable index version) = (index ≡ i) × (version ≡ asked)
-Ends (Ask i scheme asked number) (Stale version) = version ≢ asked
-Ends (Ask i scheme asked number) (Refused code) = Unit {0}
-Ends (Edit i bytes) (Done version) = Unit {0}
-Ends (Append bytes) (Done version) = Unit {0}
-Ends (Edit i bytes) (Refused code) = Unit {0}
-Ends (Append bytes) (Refused code) = Unit {0}
+Ends (Ask i asked number) (Retrieved index version bytes) = (index ≡ i) × (version ≡ asked)
+Ends (Ask i asked number) (Unreadable index version) = (index ≡ i) × (version ≡ asked)
+Ends (Ask i asked number) (Stale version) = version ≢ asked
+Ends (Ask i asked number) (Refused code) = Unit {0}
+Ends Edit (Done version) = Unit {0}
+Ends Append (Done version) = Unit {0}
+Ends Edit (Refused code) = Unit {0}
+Ends Append (Refused code) = Unit {0}
 Ends Publish (Done version) = Unit {0}
 Ends Publish (Refused code) = Unit {0}
 Ends _ _ = ⊥

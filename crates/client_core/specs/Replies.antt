@@ -46,14 +46,8 @@ ended c e = record { state = record c { call = Idle }; reaction = Reports e }
 
 -- the plan that a Welcome gives
 abbrev pub plan_given : ℕ → ℕ → ℕ → ℕ → ℕ → List ℕ → Plan
-plan_given profile width record_len groups dimension seed = record {
-  form = profile;
-  width = width;
-  record_len = record_len;
-  groups = groups;
-  dimension = dimension;
-  seed = seed;
-}
+plan_given profile width record_len groups dimension seed =
+    record { form = profile; width = width; record_len = record_len; groups = groups; dimension = dimension; seed = seed }
 
 -- a Welcome that a client of a profile accepts: a plan that it may have asked for, a form that
 -- there is, a layout and a dimension within the limits, a version
@@ -70,7 +64,7 @@ welcomed c p count version =
 
 -- a Welcome answers hello alone
 abbrev pub takes_welcome : Call → ClientState → Plan → ℕ → ℕ → AfterReply
-takes_welcome (Hello key) c p count version = welcomed c p count version
+takes_welcome Hello c p count version = welcomed c p count version
 takes_welcome _ c p count version = faulty c BadReply
 
 -- ---- HintPart
@@ -82,11 +76,9 @@ is_part s total asked next scheme version part words =
 
 -- a scheme's hint of a version, of these words
 abbrev pub hint_made : Scheme → ServerInfo → ℕ → List ℕ → Hint
-hint_made s k version words = record {
-  scheme = s;
-  version = version;
-  matrix = record { rows = hint_rows s (shape_known k) k.plan.dimension; cols = k.plan.dimension; words = words };
-}
+hint_made s k version words =
+    let n = k.plan.dimension in
+    record { scheme = s; version = version; matrix = record { rows = hint_rows s (shape_known k) n; cols = n; words = words } }
 
 -- the last part makes the hint whole, and after another the next part is asked for
 abbrev pub more_parts : Scheme → ServerInfo → ClientState → ℕ → ℕ → List ℕ → AfterReply
@@ -125,16 +117,15 @@ is_answer s k asked scheme version words =
 
 -- an answer is read with the hint held, in the hint's scheme
 abbrev pub answered : Option ServerInfo → Option Hint → ClientState → ℕ → ℕ → ℕ → ℕ → ℕ → List ℕ → AfterReply
-answered None hint c i asked number scheme version words = faulty c BadReply
-answered (Some k) None c i asked number scheme version words = faulty c BadReply
 answered (Some k) (Some h) c i asked number scheme version words =
     if is_answer h.scheme k asked scheme version words
     then ended c (event_of k.plan i version (reading h.scheme (shape_known k) h.matrix c.seed number i words))
     else faulty c BadReply
+answered _ _ c i asked number scheme version words = faulty c BadReply
 
 -- an answer replies to ask alone
 abbrev pub takes_answer : Call → ClientState → ℕ → ℕ → List ℕ → AfterReply
-takes_answer (Ask i s v n) c scheme version words = answered c.known c.hint c i v n scheme version words
+takes_answer (Ask i v n) c scheme version words = answered c.known c.hint c i v n scheme version words
 takes_answer _ c scheme version words = faulty c BadReply
 
 -- ---- Stale
@@ -148,7 +139,7 @@ abbrev pub with_current : ServerInfo → ℕ → ℕ → ServerInfo
 with_current k version count = record k { version = version; count = count }
 
 -- the version and the count named are the last known, if these are another version than asked
--- and a count within the limits. The state is the one given first
+-- and a count within the limits; `after` is the state that goes on then
 abbrev pub reaction_to_stale : Option ServerInfo → ClientState → ClientState → ℕ → ℕ → ℕ → AfterReply
 reaction_to_stale None after c asked version count = faulty c BadReply
 reaction_to_stale (Some k) after c asked version count =
@@ -159,7 +150,7 @@ reaction_to_stale (Some k) after c asked version count =
 -- Stale answers a sync by parts, of which the unfinished ones are dropped, and ask
 abbrev pub takes_stale : Call → ClientState → ℕ → ℕ → AfterReply
 takes_stale (Sync s v p) c version count = reaction_to_stale c.known (record c { parts = [] }) c v version count
-takes_stale (Ask i s v n) c version count = reaction_to_stale c.known c c v version count
+takes_stale (Ask i v n) c version count = reaction_to_stale c.known c c v version count
 takes_stale _ c version count = faulty c BadReply
 
 -- ---- Delta
@@ -191,12 +182,11 @@ hint_with_rows h version rows = record h { version = version; matrix = with_rows
 
 -- its rows replace those of the hint held, whose version and count are the last known then
 abbrev pub moved : Option ServerInfo → Option Hint → ClientState → ℕ → ℕ → ℕ → ℕ → RowList → AfterReply
-moved None hint c asked since now count rows = faulty c BadReply
-moved (Some k) None c asked since now count rows = faulty c BadReply
 moved (Some k) (Some h) c asked since now count rows =
     if is_delta k asked since now count rows.dimension (row_numbers rows)
     then ended (record c { known = Some (with_current k now count); hint = Some (hint_with_rows h now rows) }) (Synced Simple now)
     else faulty c BadReply
+moved _ _ c asked since now count rows = faulty c BadReply
 
 -- a Delta answers a sync by delta alone
 abbrev pub takes_delta : Call → ClientState → ℕ → ℕ → ℕ → RowList → AfterReply
@@ -222,21 +212,18 @@ is_changes k asked since now count entries =
 
 -- a hint of another version, moved by the changes in entries, if that version has so many records
 abbrev pub hint_with_entries : Plan → Hint → ℕ → ℕ → List ℕ → Hint
-hint_with_entries p h version count entries = record h {
-  version = version;
-  matrix =
-      moved_matrix (shape_at p count) (first_public (shape_at p count) p.dimension p.seed) (changes_in p.record_len entries) h.matrix;
-}
+hint_with_entries p h version count entries =
+    let l = shape_at p count in
+    record h { version = version; matrix = moved_matrix l (first_public l p.dimension p.seed) (changes_in p.record_len entries) h.matrix }
 
 -- its entries move the hint held, whose version and count are the last known then
 abbrev pub changed : Option ServerInfo → Option Hint → ClientState → ℕ → ℕ → ℕ → ℕ → List ℕ → AfterReply
-changed None hint c asked since now count entries = faulty c BadReply
-changed (Some k) None c asked since now count entries = faulty c BadReply
 changed (Some k) (Some h) c asked since now count entries =
     if is_changes k asked since now count entries
     then ended (record c { known = Some (with_current k now count); hint = Some (hint_with_entries k.plan h now count entries) })
     (Synced Simple now)
     else faulty c BadReply
+changed _ _ c asked since now count entries = faulty c BadReply
 
 -- Changes answer a sync by changed records alone
 abbrev pub takes_changes : Call → ClientState → ℕ → ℕ → ℕ → List ℕ → AfterReply
@@ -250,12 +237,8 @@ takes_changes _ c since now count entries = faulty c BadReply
 abbrev pub goes_by_parts : Option ServerInfo → ClientState → ℕ → ℕ → AfterReply
 goes_by_parts None c version count = faulty c BadReply
 goes_by_parts (Some k) c version count =
-    if is_current k version count
-    then record {
-      state = record c { known = Some (with_current k version count); hint = None; parts = []; call = Sync Simple version 0 };
-      reaction = Asks Simple version 0;
-    }
-    else faulty c BadReply
+    let after = record c { known = Some (with_current k version count); hint = None; parts = []; call = Sync Simple version 0 } in
+    if is_current k version count then record { state = after; reaction = Asks Simple version 0 } else faulty c BadReply
 
 -- NoDelta answers a sync by delta or by changed records alone
 abbrev pub takes_no_delta : Call → ClientState → ℕ → ℕ → AfterReply
@@ -267,8 +250,8 @@ takes_no_delta _ c version count = faulty c BadReply
 
 -- Done answers edit, append and publish, whatever version it names
 abbrev pub takes_done : Call → ClientState → ℕ → AfterReply
-takes_done (Edit i b) c version = ended c (Done version)
-takes_done (Append b) c version = ended c (Done version)
+takes_done Edit c version = ended c (Done version)
+takes_done Append c version = ended c (Done version)
 takes_done Publish c version = ended c (Done version)
 takes_done _ c version = faulty c BadReply
 

@@ -64,7 +64,7 @@ IsResumed old saved (Err fault) new = (change_refusal old ≡ Some fault) × (ne
 
 -- a new client of a seed and a number, let in by a server of this plan with this version
 abbrev pub let_in : ℕ → List ℕ → ℕ → List ℕ → ServerInfo → ClientState
-let_in profile seed number key now = (takes_welcome (call.Hello key) (state_after_call (Hello key) (fresh_in profile seed number)) now.plan now.count now.version).state
+let_in profile seed number key now = (takes_welcome call.Hello (state_after_call (Hello key) (fresh_in profile seed number)) now.plan now.count now.version).state
 
 -- A new client of the same seed and number, let in by what the server has become, goes on as the
 -- client that was saved, with all that this one knew and held but for what the server reports now;
@@ -118,8 +118,7 @@ course_holding k h = record k { state = holding k.state h }
 -- but for the hint.
 pub record AsksAlike (c : ClientState) (i : ℕ) (part : Hint) : Type 0 where
   pub refusal : refusal (Ask i) (holding c part) ≡ refusal (Ask i) c
-  pub frame : call_frame (state_after_call (Ask i) (holding c part)) (state_after_call (Ask i) (holding c part)).call
-      ≡ call_frame (state_after_call (Ask i) c) (state_after_call (Ask i) c).call
+  pub frame : call_frame (Ask i) (holding c part) ≡ call_frame (Ask i) c
   pub replies : (replies : List Frame) → takes_all (state_after_call (Ask i) (holding c part)) replies
       ≡ course_holding (takes_all (state_after_call (Ask i) c) replies) part
 

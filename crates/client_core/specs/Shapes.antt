@@ -24,7 +24,7 @@ use Rattle.client_core.specs.declared.state.CallFault.{CallFault}
 use Rattle.client_core.specs.declared.state.ClientFault.{ClientFault}
 use Rattle.client_core.specs.declared.state.ClientFault.TheVariants.{Memory}
 use Rattle.client_core.specs.declared.state.Event.{Event}
-use Rattle.client_core.specs.Calls.{ClientCall, Hello, Sync, Ask, Edit, Append, Publish, call_since, state_after_call, call_frame, refusal, Accepts, Refuses}
+use Rattle.client_core.specs.Calls.{ClientCall, Hello, Sync, Ask, Edit, Append, Publish, call_since, call_frame, refusal, Accepts, Refuses}
 use Rattle.client_core.specs.Replies.{reaction_to_reply, plan_given, is_accepted_welcome, is_current, with_current, row_numbers, is_delta, is_changes}
 use Rattle.client_core.specs.Feeding.{Client, sends_of, events_of, fault_of, takes_all, FeedsClient}
 use Rattle.client_core.specs.Laws.{Happening, Accepted, TurnedDown, Lacking, Replied, Failing, after}
@@ -33,7 +33,7 @@ use Rattle.client_core.specs.Laws.{Happening, Accepted, TurnedDown, Lacking, Rep
 
 -- the frames sent then: a call's own, or the next HintAsk of a sync
 abbrev pub frames_at : ClientState → Happening → List Frame
-frames_at c (Accepted want) = call_frame (state_after_call want c) (state_after_call want c).call ∷ []
+frames_at c (Accepted want) = call_frame want c ∷ []
 frames_at c (TurnedDown want) = []
 frames_at c (Lacking want) = []
 frames_at c (Replied reply) = sends_of (reaction_to_reply c reply).reaction
@@ -135,13 +135,13 @@ pub data Awaited : Type 0 where
 -- what a client with this call outstanding waits for
 abbrev pub awaited : Call → Awaited
 awaited call.Idle = NoReply
-awaited (call.Hello key) = AWelcome
+awaited call.Hello = AWelcome
 awaited (call.Sync scheme version part) = APart scheme version part
 awaited (call.Delta since) = ADelta since
 awaited (call.Changes since) = TheChanges since
-awaited (call.Ask i scheme version number) = AnAnswer version
-awaited (call.Edit i bytes) = ADone
-awaited (call.Append bytes) = ADone
+awaited (call.Ask i version number) = AnAnswer version
+awaited call.Edit = ADone
+awaited call.Append = ADone
 awaited call.Publish = ADone
 
 -- a hint's scheme and version

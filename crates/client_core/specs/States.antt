@@ -86,15 +86,15 @@ HintFits (Some k) (Some h) = (h.matrix.rows ≡ hint_rows h.scheme (shape_known 
 -- for is one that there is
 abbrev pub CallFits : Call → Option ServerInfo → List ℕ → Type 0
 CallFits Idle known parts = Unit {0}
-CallFits (Hello key) None parts = Unit {0}
-CallFits (Hello key) (Some k) parts = ⊥
+CallFits Hello None parts = Unit {0}
+CallFits Hello (Some k) parts = ⊥
 CallFits (Sync scheme version part) None parts = Unit {0}
 CallFits (Sync scheme version part) (Some k) parts = (length parts ≡ 65536 * part) × (length parts ≤ hint_len scheme (shape_known k) k.plan.dimension)
 CallFits (Delta since) known parts = Unit {0}
 CallFits (Changes since) known parts = Unit {0}
-CallFits (Ask index scheme version number) known parts = (index < known_count known) × (number < 2 ^ 62)
-CallFits (Edit index bytes) known parts = Unit {0}
-CallFits (Append bytes) known parts = Unit {0}
+CallFits (Ask index version number) known parts = (index < known_count known) × (number < 2 ^ 62)
+CallFits Edit known parts = Unit {0}
+CallFits Append known parts = Unit {0}
 CallFits Publish known parts = Unit {0}
 
 -- in a sync by what changed the hint held is SimplePIR's, of the version asked from

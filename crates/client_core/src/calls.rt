@@ -5,12 +5,11 @@ ghost use Rattle.std.specs.Prelude.{length};
 ghost use Rattle.frame_codec.specs.Frames.{IsFrame, payload_size, payload_limit, encoding};
 ghost use Rattle.pir_schemes.specs.Schemes.{scheme_byte};
 ghost use Rattle.pir_schemes.specs.Retrievals.{query_words};
-ghost use Rattle.client_core.specs.declared.state.ClientState.{ClientState};
 ghost use Rattle.client_core.specs.States.{IsKnown, shape_known, is_ready, is_idle, known_count};
 ghost use Rattle.client_core.specs.States.{scheme_held, delta_base};
 ghost use Rattle.client_core.specs.Buffers.{IsAskBuffers};
 ghost use Rattle.client_core.specs.Calls.{ClientCall, refusal, hello_refusal, change_refusal, call_since};
-ghost use Rattle.client_core.specs.Calls.{call_frame};
+ghost use Rattle.client_core.specs.Calls.{frame_since};
 
 use crate::state::{Call, CallFault, ClientState, Hint, ServerInfo};
 use frame_codec::{Bytes, Frame, Words, write_frame};
@@ -155,7 +154,7 @@ pub(crate) fn call_since(wide: bool, since: u64) -> Call
 
 /// The frame of that call.
 pub(crate) fn frame_since(wide: bool, since: u64) -> Frame
-    ensures frame { (c : ClientState) → result ≡ call_frame c (call_since wide since) }
+    ensures frame { result ≡ frame_since wide since }
     ensures size { payload_size result ≤ payload_limit }
 {
     if wide {
@@ -240,9 +239,17 @@ pub(crate) fn ask_buffers(
     Ok(AskBuffers { words, bytes })
 }
 
-/// The bytes of the query for a record. It takes no memory.
+/// A retrieval: the record and the version asked for, and its number under the seed.
+#[derive(Clone, Copy)]
+pub(crate) struct Retrieval {
+    pub(crate) index: u32,
+    pub(crate) version: u64,
+    pub(crate) number: u64,
+}
+
+/// The bytes of the query of a retrieval. It takes no memory.
 ///
-/// Masks that have that of its retrieval spare the public matrix.
+/// Masks that have that of the retrieval spare the public matrix.
 #[tactic(auto, using(crate::proofs::Queries::length_of_query, crate::proofs::Queries::size_of_query))]
 pub(crate) fn query_bytes<K: Kernel>(
     kernel: K,
@@ -251,26 +258,25 @@ pub(crate) fn query_bytes<K: Kernel>(
     scheme: Scheme,
     known: &ServerInfo,
     seed: &[u8; 32],
-    number: u64,
-    index: u32,
+    asked: Retrieval,
 ) -> Vec<u8>
     requires room { IsAskBuffers scheme known.now room }
     requires known { IsKnown known.now }
-    requires number { number < 2 ^ 62 }
-    requires record { index < known.now.count }
-    ensures bytes { result.items ≡ encoding (Frame.Query (scheme_byte scheme) known.now.version
+    requires number { asked.number < 2 ^ 62 }
+    requires record { asked.index < known.now.count }
+    ensures bytes { result.items ≡ encoding (Frame.Query (scheme_byte scheme) asked.version
         (query_words scheme (shape_known known.now) known.now.plan.dimension known.now.plan.seed
-        seed.now number index)) }
-    ensures frame { IsFrame (Frame.Query (scheme_byte scheme) known.now.version
+        seed.now asked.number asked.index)) }
+    ensures frame { IsFrame (Frame.Query (scheme_byte scheme) asked.version
         (query_words scheme (shape_known known.now) known.now.plan.dimension known.now.plan.seed
-        seed.now number index)) }
+        seed.now asked.number asked.index)) }
 {
     let AskBuffers { words, mut bytes } = room;
     let seed = SecretSeed::new(*seed);
-    let words = words.fill_masked(kernel, masks, &seed, number, index as usize);
+    let words = words.fill_masked(kernel, masks, &seed, asked.number, asked.index as usize);
     let frame = Frame::Query {
         scheme: scheme.byte(),
-        version: known.version,
+        version: asked.version,
         words: Words::new(words),
     };
     // There is room for the frame: no refusal is left.

@@ -14,8 +14,8 @@ ghost use Rattle.client_core.specs.Feeding.{Client, FeedsClient};
 ghost use Rattle.client_core.specs.Resuming.{IsDropped, IsResumed, saved_of};
 
 use crate::calls::{
-    append_bytes, ask_buffers, base_of, call_since, edit_bytes, encoded, frame_since, may_ask,
-    may_change, may_hello, query_bytes, scheme_of, spend_number,
+    Retrieval, append_bytes, ask_buffers, base_of, call_since, edit_bytes, encoded, frame_since,
+    may_ask, may_change, may_hello, query_bytes, scheme_of, spend_number,
 };
 use crate::parts::Parts;
 use crate::preparing::{next_masks, serve_next};
@@ -23,7 +23,7 @@ use crate::resuming::{SavedClient, may_hold};
 use crate::state::{Call, CallFault, ClientFault, ClientState, Event, Hint, ServerInfo};
 use crate::taking::take_replies;
 use digit_pack::is_wide;
-use frame_codec::{Bytes, Bytes32, Frame, Reader};
+use frame_codec::{Bytes32, Frame, Reader};
 use matrix_u32::Kernel;
 use pir_schemes::{QueryMasks, Scheme, SecretSeed, client_profile};
 use std::alloc::{AllocError, Global};
@@ -232,7 +232,7 @@ impl<K: Kernel> ClientCore<K> {
             key: Bytes32::copied(&key),
         };
         let bytes = encoded(self.alloc, &frame)?;
-        self.state.call = Call::Hello { key };
+        self.state.call = Call::Hello;
         Ok(bytes)
     }
 
@@ -325,20 +325,17 @@ impl<K: Kernel> ClientCore<K> {
         let number = spend_number(&mut self.state);
         let scheme = scheme_of(&self.state.hint);
         let room = ask_buffers(self.alloc, scheme, &known)?;
-        let bytes = query_bytes(
-            self.kernel,
-            room,
-            &self.masks,
-            scheme,
-            &known,
-            &self.state.seed,
-            number,
+        let version = known.version;
+        let asked = Retrieval {
             index,
-        );
+            version,
+            number,
+        };
+        let seed = &self.state.seed;
+        let bytes = query_bytes(self.kernel, room, &self.masks, scheme, &known, seed, asked);
         self.state.call = Call::Ask {
             index,
-            scheme,
-            version: known.version,
+            version,
             number,
         };
         Ok(bytes)
@@ -359,13 +356,7 @@ impl<K: Kernel> ClientCore<K> {
     {
         may_change(&self.state)?;
         let sent = edit_bytes(self.alloc, index, bytes)?;
-        let Ok(kept) = bytes.to_vec(self.alloc) else {
-            return Err(CallFault::Memory);
-        };
-        self.state.call = Call::Edit {
-            index,
-            bytes: Bytes::new(kept),
-        };
+        self.state.call = Call::Edit;
         Ok(sent)
     }
 
@@ -384,12 +375,7 @@ impl<K: Kernel> ClientCore<K> {
     {
         may_change(&self.state)?;
         let sent = append_bytes(self.alloc, bytes)?;
-        let Ok(kept) = bytes.to_vec(self.alloc) else {
-            return Err(CallFault::Memory);
-        };
-        self.state.call = Call::Append {
-            bytes: Bytes::new(kept),
-        };
+        self.state.call = Call::Append;
         Ok(sent)
     }
 

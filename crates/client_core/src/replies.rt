@@ -21,6 +21,7 @@ ghost use Rattle.client_core.specs.Replies.{
   with_current,
 };
 
+use crate::calls::Retrieval;
 use crate::parts::Parts;
 use crate::state::{Call, ClientFault, ClientState, Event, Hint, Reaction, ServerInfo};
 use frame_codec::{Bytes, Words};
@@ -62,7 +63,7 @@ pub(crate) fn take_welcome(
         (takes_welcome state.old.call state.old plan.now count version).reaction }
 {
     match &state.call {
-        Call::Hello { .. } => {}
+        Call::Hello => {}
         _ => return fails(state, ClientFault::BadReply),
     }
     if !plan.accepts_profile(state.profile)
@@ -166,23 +167,26 @@ fn read_answer<K: Kernel>(
     known: &ServerInfo,
     hint: &Hint,
     seed: &[u8; 32],
-    number: u64,
-    index: u32,
-    version: u64,
+    asked: Retrieval,
     words: &[u32],
 ) -> Result<Event, AllocError>
     requires known { IsKnown known.now }
     requires rows { hint.now.matrix.rows ≡
         rows_of_hint hint.now.scheme (shape_known known.now) known.now.plan.dimension }
     requires cols { hint.now.matrix.cols ≡ known.now.plan.dimension }
-    requires number { number < 2 ^ 62 }
-    requires record { index < known.now.count }
+    requires number { asked.number < 2 ^ 62 }
+    requires record { asked.index < known.now.count }
     requires words { length words.now ≡
         words_of_answer hint.now.scheme (shape_known known.now) known.now.plan.dimension }
-    ensures { IfOk result (λ e. e ≡ event_of known.now.plan index version
-        (reading hint.now.scheme (shape_known known.now) hint.now.matrix seed.now number index
-        words.now)) }
+    ensures { IfOk result (λ e. e ≡ event_of known.now.plan asked.index asked.version
+        (reading hint.now.scheme (shape_known known.now) hint.now.matrix seed.now asked.number
+        asked.index words.now)) }
 {
+    let Retrieval {
+        index,
+        version,
+        number,
+    } = asked;
     match recover(
         alloc,
         kernel,
@@ -225,7 +229,6 @@ pub(crate) fn take_answer<K: Kernel>(
         index,
         version: asked,
         number,
-        ..
     } = state.call
     else {
         return Ok(fails(state, ClientFault::BadReply));
@@ -241,17 +244,12 @@ pub(crate) fn take_answer<K: Kernel>(
     if scheme != hint.scheme.byte() || version != asked || words.len() != wanted {
         return Ok(fails(state, ClientFault::BadReply));
     }
-    let event = read_answer(
-        alloc,
-        kernel,
-        &known,
-        hint,
-        &state.seed,
-        number,
+    let asked = Retrieval {
         index,
         version,
-        words,
-    )?;
+        number,
+    };
+    let event = read_answer(alloc, kernel, &known, hint, &state.seed, asked, words)?;
     Ok(ends(state, event))
 }
 
@@ -325,9 +323,7 @@ pub(crate) fn take_done(state: &mut ClientState, version: u64) -> Reaction
     ensures reaction { result ≡ (takes_done state.old.call state.old version).reaction }
 {
     match &state.call {
-        Call::Edit { .. } | Call::Append { .. } | Call::Publish => {
-            ends(state, Event::Done(version))
-        }
+        Call::Edit | Call::Append | Call::Publish => ends(state, Event::Done(version)),
         _ => fails(state, ClientFault::BadReply),
     }
 }

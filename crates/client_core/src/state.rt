@@ -48,15 +48,13 @@ pub struct Hint {
     pub matrix: Matrix,
 }
 
-/// The outstanding call, with all that its frame says.
+/// The outstanding call, with what a reply to it is judged by.
 #[derive(Drop)]
 pub enum Call {
     /// There is none.
     Idle,
-    /// Hello was sent, with this key.
-    Hello {
-        key: [u8; 32],
-    },
+    /// Hello was sent.
+    Hello,
     /// Part `part` of the version's hint was asked for.
     Sync {
         scheme: Scheme,
@@ -71,23 +69,17 @@ pub enum Call {
     Changes {
         since: u64,
     },
-    /// The query of the scheme for record `index` was sent; `number` is that of the retrieval under
-    /// the seed.
+    /// The query for record `index` was sent, in the scheme of the hint held; `number` is that of
+    /// the retrieval under the seed.
     Ask {
         index: u32,
-        scheme: Scheme,
         version: u64,
         number: u64,
     },
-    /// These bytes were sent for record `index`.
-    Edit {
-        index: u32,
-        bytes: Bytes,
-    },
-    /// These bytes were sent as a further record.
-    Append {
-        bytes: Bytes,
-    },
+    /// Other bytes were sent for a record.
+    Edit,
+    /// The bytes of one record more were sent.
+    Append,
     /// Publish was sent.
     Publish,
 }

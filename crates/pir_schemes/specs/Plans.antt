@@ -14,14 +14,8 @@ shape_at p count = shape_in p.form p.width p.record_len p.groups count
 
 -- the plan of a form, a shape, a dimension and a public seed
 abbrev pub plan_of : ℕ → Shape → ℕ → List ℕ → Plan
-plan_of form l dimension seed = record {
-  form = form;
-  width = l.width;
-  record_len = l.record_len;
-  groups = l.groups;
-  dimension = dimension;
-  seed = seed;
-}
+plan_of form l dimension seed =
+    record { form = form; width = l.width; record_len = l.record_len; groups = l.groups; dimension = dimension; seed = seed }
 
 -- a plan and a count of records within every limit
 pub record IsPlan (p : Plan) (count : ℕ) : Type 0 where

@@ -18,14 +18,14 @@ use Rattle.client_core.specs.declared.state.Hint.{Hint}
 use Rattle.client_core.specs.declared.state.Call.{Call}
 use Rattle.client_core.specs.declared.state.Call.TheVariants.{Idle, Hello, Sync, Delta, Changes, Ask, Edit, Append, Publish}
 use Rattle.client_core.specs.States.{is_wide_client, is_idle, is_ready, known_version, known_count, scheme_held, simple_version, delta_base}
-use Rattle.client_core.specs.Calls.{call_since, refusal, sync_begun, state_after_call, call_frame}
+use Rattle.client_core.specs.Calls.{call_since, frame_since, refusal, sync_begun, sync_frame, state_after_call}
 use Rattle.client_core.specs.Calls.{Hello as hello_call, Sync as sync_call, Ask as ask_call}
 use Rattle.client_core.specs.Replies.{reaction_to_reply}
 use Rattle.client_core.specs.Feeding.{takes_all, fault_of}
 use Rattle.pir_world.specs.Runs.{Wire, Link, Entry, sent, arrived, beyond, reported_by, reacts, reader_key}
 use Rattle.pir_world.specs.Versions.{seed_of}
 use Rattle.pir_world.specs.Headlines.{IsRight}
-use Rattle.pir_world.specs.Invariants.{CallIs, DeltaIs, GoodHistory, KnownIs, SyncIs, IsReply, InFlight, Phase, LinkInvariant}
+use Rattle.pir_world.specs.Invariants.{CallIs, DeltaIs, GoodHistory, KnownIs, SyncIs, IsReply, outstanding_frame, InFlight, Phase, LinkInvariant}
 use Rattle.pir_world.proofs.Wires.{none_arrives, one_arrives, Split, IsFew, split_few}
 use Rattle.pir_world.proofs.Serves.{served_link}
 use Rattle.pir_world.proofs.Takes.{ClientInv, taken, hint_long}
@@ -35,13 +35,13 @@ use Rattle.pir_world.proofs.Links.{link_called, link_reported, link_served, turn
 
 idle_is : (call : Call) → is_idle call ≡ true → call ≡ Idle
 idle_is Idle e = refl
-idle_is (Hello key) e = absurd cc
+idle_is Hello e = absurd cc
 idle_is (Sync scheme v p) e = absurd cc
 idle_is (Delta since) e = absurd cc
 idle_is (Changes since) e = absurd cc
-idle_is (Ask i s v n) e = absurd cc
-idle_is (Edit i bytes) e = absurd cc
-idle_is (Append bytes) e = absurd cc
+idle_is (Ask i v n) e = absurd cc
+idle_is Edit e = absurd cc
+idle_is Append e = absurd cc
 idle_is Publish e = absurd cc
 
 -- a hint of the version known is held
@@ -71,7 +71,7 @@ idle_phase : (x : Setting) (h : History) (st : Standing) (seed : List ℕ) (c : 
 idle_phase x h st seed c call up down e p = let P : Call → Type 0 = λ y. Phase x h st seed c y up down in subst P e p
 
 flight : (x : Setting) (h : History) (st : Standing) (seed : List ℕ) (c : ClientState) (call : Call) (up down : List Frame) → (up ≡ []) × (down ≡ []) →
-    InFlight x h st seed c call (up ++ call_frame c call ∷ []) down
+    InFlight x h st seed c call (up ++ outstanding_frame c call ∷ []) down
 flight x h st seed c call up down p = inl (rw p.0 refl, p.1)
 
 first_parts : (x : Setting) (h : History) (st : Standing) (s : Scheme) (k : Option ServerInfo) → GoodHistory x h → KnownIs x h st k → is_some k ≡ true →
@@ -123,11 +123,14 @@ since_flies : (x : Setting) (h : History) (st : Standing) (seed : List ℕ) (c :
 since_flies x h st seed c since true up down f = f
 since_flies x h st seed c since false up down f = f
 
+pub since_outstanding : (c : ClientState) (since : ℕ) (wide : Bool) → frame_since wide since ≡ outstanding_frame c (call_since wide since)
+since_outstanding c since true = refl
+since_outstanding c since false = refl
+
 -- the link where a sync has begun
 abbrev pub link_begun : Option ℕ → Scheme → Link → Link
 link_begun base s l =
-    let c = sync_begun base s l.client in
-    record { client = c; standing = l.standing; up = sent l.up (call_frame c c.call ∷ []); down = l.down }
+    record { client = sync_begun base s l.client; standing = l.standing; up = sent l.up (sync_frame base s l.client ∷ []); down = l.down }
 
 module _ (x : Setting) (h : History) (seed : List ℕ) (l : Link) (g : GoodHistory x h) (i : LinkInvariant x h seed l) where
   nothing_waits : l.client.call ≡ Idle → (l.up.frames ≡ []) × (l.down.frames ≡ [])
@@ -145,8 +148,8 @@ module _ (x : Setting) (h : History) (seed : List ℕ) (l : Link) (g : GoodHisto
         unclosed = i.unclosed;
         known = i.known;
         hint = i.hint;
-        call = refl;
-        phase = flight x h l.standing seed (state_after_call (hello_call reader_key) l.client) (Hello reader_key) l.up.frames l.down.frames
+        call = tt;
+        phase = flight x h l.standing seed (state_after_call (hello_call reader_key) l.client) Hello l.up.frames l.down.frames
             (nothing_waits (idle_is l.client.call d.0));
       }
 
@@ -178,7 +181,9 @@ module _ (x : Setting) (h : History) (seed : List ℕ) (l : Link) (g : GoodHisto
         hint = i.hint;
         call = since_is x h c since (is_wide_client l.client) refl d;
         phase = since_flies x h l.standing seed c since (is_wide_client l.client) _ _
-            (flight x h l.standing seed c (call_since (is_wide_client l.client) since) l.up.frames l.down.frames (nothing_waits idle));
+            (subst (λ (f : Frame). InFlight x h l.standing seed c (call_since (is_wide_client l.client) since) (l.up.frames ++ f ∷ []) l.down.frames)
+            (sym (since_outstanding c since (is_wide_client l.client)))
+            (flight x h l.standing seed c (call_since (is_wide_client l.client) since) l.up.frames l.down.frames (nothing_waits idle)));
       }
 
   pub called_sync : (scheme : Scheme) → refusal (sync_call scheme) l.client ≡ None → LinkInvariant x h seed (link_called (sync_call scheme) l)
@@ -211,11 +216,10 @@ module _ (x : Setting) (h : History) (seed : List ℕ) (l : Link) (g : GoodHisto
           inside = omega (arith, lt, ap known_count r.known_is);
           hint = r.hint;
           hint_is = r.hint_is;
-          scheme_is = sym (ap scheme_held r.hint_is);
           version_is = r.version_is ∙ sym version;
         };
         phase = flight x h l.standing seed (state_after_call (ask_call j) l.client)
-            (Ask j (scheme_held l.client.hint) (known_version l.client.known) l.client.number) l.up.frames l.down.frames
+            (Ask j (known_version l.client.known) l.client.number) l.up.frames l.down.frames
             (nothing_waits (idle_is l.client.call d.0));
       }
 
@@ -261,11 +265,11 @@ module _ (law : RetrievalGivesTheRecord) (x : Setting) (seeds : List (List ℕ))
   reported_one r = reported_by k l.client (r ∷ [])
 
   reported_one_is : (r : Frame) → fault_of (reaction_to_reply l.client r).reaction ≡ None →
-      reported_one r ≡ reacts k l.client.call r (reaction_to_reply l.client r).reaction
-  reported_one_is r e = ap (λ (b : Bool). reacts k l.client.call r (reaction_to_reply l.client r).reaction ++ cond b [] []) (ap is_some e) ∙ append-nil _
+      reported_one r ≡ reacts k (scheme_held l.client.hint) l.client.call r (reaction_to_reply l.client r).reaction
+  reported_one_is r e = ap (λ (b : Bool). reacts k (scheme_held l.client.hint) l.client.call r (reaction_to_reply l.client r).reaction ++ cond b [] []) (ap is_some e) ∙ append-nil _
 
   one_reply : (fs : List Frame) (b : Wire) (r : Frame) → fs ≡ r ∷ [] → b.frames ≡ [] → l.up.frames ≡ [] →
-      IsReply x h l.standing (seed_of seeds k) l.client.call r
+      IsReply x h l.standing (seed_of seeds k) (scheme_held l.client.hint) l.client.call r
       → ReportedLink x seeds h k (with_replies fs b) (reported_by k l.client fs)
   one_reply fs b r e d u p =
       let t = taken law x seeds k h l.standing l.client g client_inv r p in
@@ -290,19 +294,19 @@ module _ (law : RetrievalGivesTheRecord) (x : Setting) (seeds : List (List ℕ))
   reported_flight most call e (inr p) = elim (one_arrives l.down most p.1.0 p.1.1) [
     | inl a ↦ no_reply (arrived l.down most) (beyond l.down most) a.0 (a.1 ∙ sym p.1.1)
     | inr a ↦ one_reply (arrived l.down most) (beyond l.down most) p.1.0 a.0 a.1 p.0
-        (subst (λ (y : Call). IsReply x h l.standing (seed_of seeds k) y p.1.0) e p.1.2)
+        (subst (λ (y : Call). IsReply x h l.standing (seed_of seeds k) (scheme_held l.client.hint) y p.1.0) e p.1.2)
   ]
 
   reported_phase : (most : ℕ) (call : Call) → call ≡ l.client.call → Phase x h l.standing (seed_of seeds k) l.client call l.up.frames l.down.frames →
       ReportedLink x seeds h k (link_reported most l) (reported_by k l.client (arrived l.down most))
   reported_phase most Idle e p = let a = none_arrives l.down most p.1 in no_reply (arrived l.down most) (beyond l.down most) a.0 (a.1 ∙ sym p.1)
-  reported_phase most (Hello key) e p = reported_flight most (Hello key) e p
+  reported_phase most Hello e p = reported_flight most Hello e p
   reported_phase most (Sync scheme v q) e p = reported_flight most (Sync scheme v q) e p
   reported_phase most (Delta since) e p = reported_flight most (Delta since) e p
   reported_phase most (Changes since) e p = reported_flight most (Changes since) e p
-  reported_phase most (Ask j z v m) e p = reported_flight most (Ask j z v m) e p
-  reported_phase most (Edit j bytes) e p = absurd p
-  reported_phase most (Append bytes) e p = absurd p
+  reported_phase most (Ask j v m) e p = reported_flight most (Ask j v m) e p
+  reported_phase most Edit e p = absurd p
+  reported_phase most Append e p = absurd p
   reported_phase most Publish e p = absurd p
 
   pub reported_inv : (most : ℕ) → ReportedLink x seeds h k (link_reported most l) (reported_by k l.client (arrived l.down most))
@@ -314,20 +318,20 @@ module _ (law : RetrievalGivesTheRecord) (x : Setting) (seeds : List (List ℕ))
   prefix_flight call fs more e (inl a) p = rw a.0 refl
   prefix_flight call fs more e (inr a) (inl p) = rw (a.0 ∙ p.1) refl
   prefix_flight call fs more e (inr a) (inr p) =
-      let t = taken law x seeds k h l.standing l.client g client_inv p.1.0 (subst (λ (y : Call). IsReply x h l.standing (seed_of seeds k) y p.1.0) e p.1.2) in
+      let t = taken law x seeds k h l.standing l.client g client_inv p.1.0 (subst (λ (y : Call). IsReply x h l.standing (seed_of seeds k) (scheme_held l.client.hint) y p.1.0) e p.1.2) in
       rw (a.0 ∙ p.1.1) t.no_fault
 
   prefix_phase : (call : Call) (fs more : List Frame) → call ≡ l.client.call → Split l.down.frames fs more →
       Phase x h l.standing (seed_of seeds k) l.client call l.up.frames l.down.frames → (takes_all l.client fs).fault ≡ None
   prefix_phase Idle fs more e (inl a) p = rw a.0 refl
   prefix_phase Idle fs more e (inr a) p = rw (a.0 ∙ p.1) refl
-  prefix_phase (Hello key) fs more e a p = prefix_flight (Hello key) fs more e a p
+  prefix_phase Hello fs more e a p = prefix_flight Hello fs more e a p
   prefix_phase (Sync scheme v q) fs more e a p = prefix_flight (Sync scheme v q) fs more e a p
   prefix_phase (Delta since) fs more e a p = prefix_flight (Delta since) fs more e a p
   prefix_phase (Changes since) fs more e a p = prefix_flight (Changes since) fs more e a p
-  prefix_phase (Ask j z v m) fs more e a p = prefix_flight (Ask j z v m) fs more e a p
-  prefix_phase (Edit j bytes) fs more e a p = absurd p
-  prefix_phase (Append bytes) fs more e a p = absurd p
+  prefix_phase (Ask j v m) fs more e a p = prefix_flight (Ask j v m) fs more e a p
+  prefix_phase Edit fs more e a p = absurd p
+  prefix_phase Append fs more e a p = absurd p
   prefix_phase Publish fs more e a p = absurd p
 
   pub prefix_good : (fs more : List Frame) → Split l.down.frames fs more → (takes_all l.client fs).fault ≡ None
@@ -346,19 +350,19 @@ known_then x h st st2 (Some y) f k = (f k.0, k.1)
 
 few_flight : (x : Setting) (h : History) (st : Standing) (seed : List ℕ) (c : ClientState) (call : Call) (up down : List Frame) →
     InFlight x h st seed c call up down → IsFew up × IsFew down
-few_flight x h st seed c call up down (inl p) = (inr (call_frame c call, p.0), inl p.1)
+few_flight x h st seed c call up down (inl p) = (inr (outstanding_frame c call, p.0), inl p.1)
 few_flight x h st seed c call up down (inr p) = (inl p.0, inr (p.1.0, p.1.1))
 
 pub few_frames : (x : Setting) (h : History) (st : Standing) (seed : List ℕ) (c : ClientState) (call : Call) (up down : List Frame) →
     Phase x h st seed c call up down → IsFew up × IsFew down
 few_frames x h st seed c Idle up down p = (inl p.0, inl p.1)
-few_frames x h st seed c (Hello key) up down p = few_flight x h st seed c (Hello key) up down p
+few_frames x h st seed c Hello up down p = few_flight x h st seed c Hello up down p
 few_frames x h st seed c (Sync scheme v q) up down p = few_flight x h st seed c (Sync scheme v q) up down p
 few_frames x h st seed c (Delta since) up down p = few_flight x h st seed c (Delta since) up down p
 few_frames x h st seed c (Changes since) up down p = few_flight x h st seed c (Changes since) up down p
-few_frames x h st seed c (Ask j z v m) up down p = few_flight x h st seed c (Ask j z v m) up down p
-few_frames x h st seed c (Edit j bytes) up down p = absurd p
-few_frames x h st seed c (Append bytes) up down p = absurd p
+few_frames x h st seed c (Ask j v m) up down p = few_flight x h st seed c (Ask j v m) up down p
+few_frames x h st seed c Edit up down p = absurd p
+few_frames x h st seed c Append up down p = absurd p
 few_frames x h st seed c Publish up down p = absurd p
 
 pub served_inv : (short : Bool) (most : ℕ) (x : Setting) (seeds : List (List ℕ)) (k : ℕ) (h : History) (seed : List ℕ) (l : Link) → GoodHistory x h → LinkInvariant x h seed l

@@ -20,7 +20,7 @@ use Rattle.client_core.specs.declared.state.ClientState.{ClientState}
 use Rattle.client_core.specs.declared.state.Reaction.{Reaction}
 use Rattle.client_core.specs.declared.state.Reaction.TheVariants.{Asks, Reports, Fails}
 use Rattle.client_core.specs.States.{is_wide_client, delta_base}
-use Rattle.client_core.specs.Calls.{ClientCall, Hello, Sync, Ask, Edit, Append, Publish, call_frame, call_since, state_after_call, sync_begun}
+use Rattle.client_core.specs.Calls.{ClientCall, Hello, Sync, Ask, Edit, Append, Publish, call_frame, frame_since, sync_frame}
 use Rattle.client_core.specs.Replies.{reaction_to_reply}
 use Rattle.client_core.specs.Feeding.{Course, runs, course_more, takes_all, start, sends_of}
 use Rattle.pir_world.specs.Runs.{Link, Turn, served_or, turn_more, turns, arrived}
@@ -66,17 +66,17 @@ profile_wide p profile e = by (is_wide p.form) refl e
     by false is h = of_ordinary h ∙ is
 
 -- a wide client asks for records, and another one for rows
-since_known : (wide : Bool) (c : ClientState) (since : ℕ) → Known wide (call_frame c (call_since wide since))
-since_known true c since = refl
-since_known false c since = refl
+since_known : (wide : Bool) (since : ℕ) → Known wide (frame_since wide since)
+since_known true since = refl
+since_known false since = refl
 
 sync_known : (since : Option ℕ) (scheme : Scheme) (c : ClientState) →
-    Known (is_wide_client c) (call_frame (sync_begun since scheme c) (sync_begun since scheme c).call)
+    Known (is_wide_client c) (sync_frame since scheme c)
 sync_known None scheme c = refl
-sync_known (Some since) scheme c = since_known (is_wide_client c) (sync_begun (Some since) scheme c) since
+sync_known (Some since) scheme c = since_known (is_wide_client c) since
 
 -- the frame of a call
-pub call_known : (w : ClientCall) (c : ClientState) → Known (is_wide_client c) (call_frame (state_after_call w c) (state_after_call w c).call)
+pub call_known : (w : ClientCall) (c : ClientState) → Known (is_wide_client c) (call_frame w c)
 call_known (Hello key) c = refl
 call_known (Sync scheme) c = sync_known (delta_base scheme c.hint) scheme c
 call_known (Ask i) c = refl

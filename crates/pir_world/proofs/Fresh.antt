@@ -6,6 +6,7 @@ use Rattle.std.proofs.lemmas.Bool.{cond_both}
 use Rattle.pir_schemes.specs.Plans.{fits, shape_at}
 use Rattle.pir_schemes.specs.Laws.{RetrievalGivesTheRecord}
 use Rattle.frame_codec.specs.declared.frame.Frame.{Frame}
+use Rattle.pir_schemes.specs.declared.scheme.Scheme.{Scheme}
 use Rattle.version_store.specs.Histories.{History, current_version}
 use Rattle.server_core.specs.declared.standing.Standing.{Standing}
 use Rattle.server_core.specs.Serving.{Setting, is_closed}
@@ -17,6 +18,7 @@ use Rattle.client_core.specs.declared.state.Event.{Event}
 use Rattle.client_core.specs.declared.state.Event.TheVariants.{Welcomed, Synced, Retrieved, Unreadable, Stale, Done, Refused}
 use Rattle.client_core.specs.declared.state.Reaction.{Reaction}
 use Rattle.client_core.specs.declared.state.Reaction.TheVariants.{Asks, Reports, Fails}
+use Rattle.client_core.specs.States.{scheme_held}
 use Rattle.client_core.specs.Calls.{ClientCall, refusal}
 use Rattle.client_core.specs.Calls.{Hello as hello_call, Sync as sync_call, Ask as ask_call}
 use Rattle.client_core.specs.Feeding.{fault_of}
@@ -98,30 +100,30 @@ one_served x short k h st log fs (inl e) reported = rw e tt
 one_served x short k h st log fs (inr p) reported =
     rw p.1 (cond_both (is_closed st) _ _ (λ (t : Turn). EachAfter IsServedFresh log t.log) (λ c. tt) (λ c. (reported, tt)))
 
-reports_served : (k : ℕ) (c : Call) (reply : Frame) (e : Event) (before : List Entry) → IsServedFresh before (reports k c reply e)
-reports_served k call.Idle reply e before = tt
-reports_served k (call.Hello key) reply e before = tt
-reports_served k (call.Sync scheme v p) reply e before = tt
-reports_served k (call.Delta since) reply e before = tt
-reports_served k (call.Changes since) reply e before = tt
-reports_served k (call.Ask i s v n) reply e before = tt
-reports_served k (call.Edit i bytes) reply e before = tt
-reports_served k (call.Append bytes) reply e before = tt
-reports_served k call.Publish reply e before = tt
+reports_served : (k : ℕ) (z : Scheme) (c : Call) (reply : Frame) (e : Event) (before : List Entry) → IsServedFresh before (reports k z c reply e)
+reports_served k z call.Idle reply e before = tt
+reports_served k z call.Hello reply e before = tt
+reports_served k z (call.Sync scheme v p) reply e before = tt
+reports_served k z (call.Delta since) reply e before = tt
+reports_served k z (call.Changes since) reply e before = tt
+reports_served k z (call.Ask i v n) reply e before = tt
+reports_served k z call.Edit reply e before = tt
+reports_served k z call.Append reply e before = tt
+reports_served k z call.Publish reply e before = tt
 
-reacts_served : (k : ℕ) (c : Call) (reply : Frame) (r : Reaction) (before : List Entry) → EachAfter IsServedFresh before (reacts k c reply r)
-reacts_served k c reply (Asks scheme version part) before = (tt, tt)
-reacts_served k c reply (Reports e) before = (reports_served k c reply e before, tt)
-reacts_served k c reply (Fails fault) before = (tt, tt)
+reacts_served : (k : ℕ) (z : Scheme) (c : Call) (reply : Frame) (r : Reaction) (before : List Entry) → EachAfter IsServedFresh before (reacts k z c reply r)
+reacts_served k z c reply (Asks scheme version part) before = (tt, tt)
+reacts_served k z c reply (Reports e) before = (reports_served k z c reply e before, tt)
+reacts_served k z c reply (Fails fault) before = (tt, tt)
 
 -- a delivery to a client serves no frame
 reported_served : (k : ℕ) (c : ClientState) (fs : List Frame) (before : List Entry) → EachAfter IsServedFresh before (reported_by k c fs)
 reported_served k c [] before = tt
 reported_served k c (f ∷ fs) before =
     let t = reaction_to_reply c f in
-    each_more IsServedFresh before (reacts k c.call f t.reaction) _ (reacts_served k c.call f t.reaction before)
-    (cond_both (is_some (fault_of t.reaction)) [] (reported_by k t.state fs) (λ es. EachAfter IsServedFresh (before ++ reacts k c.call f t.reaction) es)
-    (λ e. tt) (λ e. reported_served k t.state fs (before ++ reacts k c.call f t.reaction)))
+    each_more IsServedFresh before (reacts k (scheme_held c.hint) c.call f t.reaction) _ (reacts_served k (scheme_held c.hint) c.call f t.reaction before)
+    (cond_both (is_some (fault_of t.reaction)) [] (reported_by k t.state fs) (λ es. EachAfter IsServedFresh (before ++ reacts k (scheme_held c.hint) c.call f t.reaction) es)
+    (λ e. tt) (λ e. reported_served k t.state fs (before ++ reacts k (scheme_held c.hint) c.call f t.reaction)))
 
 module _ (x : Setting) (seeds : List (List ℕ)) (s : State) (inv : WorldInvariant x seeds s) (so_far : EachAfter IsServedFresh [] s.log) where
   -- entries are added

@@ -68,7 +68,7 @@ module _ (x : Setting) (seeds : List (List ℕ)) (s : State) (inv : WorldInvaria
   abbrev Accepted : ℕ → ClientCall → Link → Type 0
   Accepted k w l =
       let m = link_called w l in
-      LinkInvariant x s.history (seed_of seeds k) m × Logged x seeds s.history k m s.log (Called k w None ∷ Sent k (call_frame m.client m.client.call) ∷ [])
+      LinkInvariant x s.history (seed_of seeds k) m × Logged x seeds s.history k m s.log (Called k w None ∷ Sent k (call_frame w l.client) ∷ [])
 
   call_inv : (k : ℕ) (w : ClientCall) (l : Link) (f : Option CallFault) → slice_get s.links k ≡ Some l → refusal w l.client ≡ f
       → (refusal w l.client ≡ None → Accepted k w l) → WorldInvariant x seeds (call_at s k w l f)

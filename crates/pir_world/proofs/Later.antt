@@ -19,6 +19,7 @@ use Rattle.client_core.specs.declared.state.ClientState.{ClientState}
 use Rattle.client_core.specs.declared.state.ServerInfo.{ServerInfo}
 use Rattle.client_core.specs.declared.state.Hint.{Hint}
 use Rattle.client_core.specs.declared.state.Call.{Call}
+use Rattle.client_core.specs.States.{scheme_held}
 use Rattle.client_core.specs.declared.state.Call.TheVariants.{Idle, Hello, Sync, Delta, Changes, Ask, Edit, Append, Publish}
 use Rattle.client_core.specs.declared.state.Event.{Event}
 use Rattle.client_core.specs.declared.state.Event.TheVariants.{Welcomed, Synced, Retrieved, Unreadable, Stale, Done, Refused}
@@ -152,7 +153,7 @@ module _ (x : Setting) (h h2 : History) (later : IsLater h h2) where
 
   call_later : (c : ClientState) (call : Call) → CallIs x h c call → CallIs x h2 c call
   call_later c Idle p = tt
-  call_later c (Hello key) p = p
+  call_later c Hello p = p
   call_later c (Sync scheme v p) q = record {
     k = q.k;
     known_is = q.known_is;
@@ -164,9 +165,9 @@ module _ (x : Setting) (h h2 : History) (later : IsLater h h2) where
   }
   call_later c (Delta since) q = q
   call_later c (Changes since) q = q
-  call_later c (Ask i s v n) q = q
-  call_later c (Edit i bytes) q = q
-  call_later c (Append bytes) q = q
+  call_later c (Ask i v n) q = q
+  call_later c Edit q = q
+  call_later c Append q = q
   call_later c Publish q = q
 
   reply_of_later : (v : ℕ) (r : Frame) (answer : List (List ℕ) → Frame) → IsReplyOf x h v r answer → IsReplyOf x h2 v r answer
@@ -174,13 +175,13 @@ module _ (x : Setting) (h h2 : History) (later : IsLater h h2) where
   reply_of_later v r answer (inr (inl p)) = inr (inl (p.0, p.1, later _ _ p.2, p.3, p.4))
   reply_of_later v r answer (inr (inr p)) = inr (inr (p.0, later _ _ p.1, p.2))
 
-  reply_later : (st : Standing) (seed : List ℕ) (call : Call) (r : Frame) → IsReply x h st seed call r → IsReply x h2 st seed call r
-  reply_later st seed Idle r p = p
-  reply_later st seed (Hello key) r p = (p.0, (p.1.0, p.1.1, later _ _ p.1.2, p.1.3))
-  reply_later st seed (Sync s v p) r q = reply_of_later v r _ q
-  reply_later st seed (Delta since) r (inl e) = inl e
-  reply_later st seed (Delta since) r (inr (inl p)) = inr (inl (p.0, p.1, later _ _ p.2, p.3))
-  reply_later st seed (Delta since) r (inr (inr d)) =
+  reply_later : (st : Standing) (seed : List ℕ) (z : Scheme) (call : Call) (r : Frame) → IsReply x h st seed z call r → IsReply x h2 st seed z call r
+  reply_later st seed z Idle r p = p
+  reply_later st seed z Hello r p = (p.0, (p.1.0, p.1.1, later _ _ p.1.2, p.1.3))
+  reply_later st seed z (Sync s v p) r q = reply_of_later v r _ q
+  reply_later st seed z (Delta since) r (inl e) = inl e
+  reply_later st seed z (Delta since) r (inr (inl p)) = inr (inl (p.0, p.1, later _ _ p.2, p.3))
+  reply_later st seed z (Delta since) r (inr (inr d)) =
       inr (inr (record {
         now = d.now;
         records = d.records;
@@ -193,9 +194,9 @@ module _ (x : Setting) (h h2 : History) (later : IsLater h h2) where
         named = d.named;
         reply_is = d.reply_is;
       }))
-  reply_later st seed (Changes since) r (inl e) = inl e
-  reply_later st seed (Changes since) r (inr (inl p)) = inr (inl (p.0, p.1, later _ _ p.2, p.3))
-  reply_later st seed (Changes since) r (inr (inr d)) =
+  reply_later st seed z (Changes since) r (inl e) = inl e
+  reply_later st seed z (Changes since) r (inr (inl p)) = inr (inl (p.0, p.1, later _ _ p.2, p.3))
+  reply_later st seed z (Changes since) r (inr (inr d)) =
       inr (inr (record {
         now = d.now;
         records = d.records;
@@ -205,26 +206,26 @@ module _ (x : Setting) (h h2 : History) (later : IsLater h h2) where
         more = d.more;
         reply_is = d.reply_is;
       }))
-  reply_later st seed (Ask i s v n) r q = reply_of_later v r _ q
-  reply_later st seed (Edit i bytes) r q = q
-  reply_later st seed (Append bytes) r q = q
-  reply_later st seed Publish r q = q
+  reply_later st seed z (Ask i v n) r q = reply_of_later v r _ q
+  reply_later st seed z Edit r q = q
+  reply_later st seed z Append r q = q
+  reply_later st seed z Publish r q = q
 
   flight_later : (st : Standing) (seed : List ℕ) (c : ClientState) (call : Call) (up down : List Frame) → InFlight x h st seed c call up down →
       InFlight x h2 st seed c call up down
   flight_later st seed c call up down (inl p) = inl p
-  flight_later st seed c call up down (inr p) = inr (p.0, (p.1.0, p.1.1, reply_later st seed call p.1.0 p.1.2))
+  flight_later st seed c call up down (inr p) = inr (p.0, (p.1.0, p.1.1, reply_later st seed (scheme_held c.hint) call p.1.0 p.1.2))
 
   phase_later : (st : Standing) (seed : List ℕ) (c : ClientState) (call : Call) (up down : List Frame) → Phase x h st seed c call up down →
       Phase x h2 st seed c call up down
   phase_later st seed c Idle up down p = p
-  phase_later st seed c (Hello key) up down p = flight_later st seed c (Hello key) up down p
+  phase_later st seed c Hello up down p = flight_later st seed c Hello up down p
   phase_later st seed c (Sync scheme v p) up down q = flight_later st seed c (Sync scheme v p) up down q
   phase_later st seed c (Delta since) up down q = flight_later st seed c (Delta since) up down q
   phase_later st seed c (Changes since) up down q = flight_later st seed c (Changes since) up down q
-  phase_later st seed c (Ask i s v n) up down q = flight_later st seed c (Ask i s v n) up down q
-  phase_later st seed c (Edit i bytes) up down q = q
-  phase_later st seed c (Append bytes) up down q = q
+  phase_later st seed c (Ask i v n) up down q = flight_later st seed c (Ask i v n) up down q
+  phase_later st seed c Edit up down q = q
+  phase_later st seed c Append up down q = q
   phase_later st seed c Publish up down q = q
 
   pub link_later : (seed : List ℕ) (l : Link) → LinkInvariant x h seed l → LinkInvariant x h2 seed l

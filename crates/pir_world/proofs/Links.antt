@@ -25,5 +25,4 @@ link_reported most l =
 -- the link after an accepted call
 abbrev pub link_called : ClientCall → Link → Link
 link_called w l =
-    let c = state_after_call w l.client in
-    record { client = c; standing = l.standing; up = sent l.up (call_frame c c.call ∷ []); down = l.down }
+    record { client = state_after_call w l.client; standing = l.standing; up = sent l.up (call_frame w l.client ∷ []); down = l.down }

@@ -18,6 +18,7 @@ use Rattle.client_core.specs.declared.state.Event.{Event}
 use Rattle.client_core.specs.declared.state.Event.TheVariants.{Synced}
 use Rattle.client_core.specs.declared.state.Reaction.{Reaction}
 use Rattle.client_core.specs.declared.state.Reaction.TheVariants.{Asks, Reports, Fails}
+use Rattle.client_core.specs.States.{scheme_held}
 use Rattle.client_core.specs.Calls.{Ask as ask_call}
 use Rattle.client_core.specs.Replies.{reaction_to_reply}
 use Rattle.client_core.specs.Feeding.{fault_of}
@@ -128,34 +129,34 @@ pub log_same : (x : Setting) (h : History) (seed : List ℕ) (k : ℕ) (l m : Li
 log_same x h seed k l m log c u d i = record {
   number = ap (λ (y : ClientState). y.number) c ∙ i.number;
   hint = ap (λ (y : ClientState). name_of y.hint) c ∙ i.hint;
-  sent = λ f e. let s = i.sent f (sym u ∙ e) in (s.0, s.1, subst (λ (y : ClientState). IsFrom x h seed k y.call f s.0) (sym c) s.2);
-  served = λ r e. let s = i.served r (sym d ∙ e) in (s.0, s.1, s.2, subst (λ (y : ClientState). IsFrom x h seed k y.call s.0 s.1) (sym c) s.3);
+  sent = λ f e. let s = i.sent f (sym u ∙ e) in (s.0, s.1, subst (λ (y : ClientState). IsFrom x h seed k (scheme_held y.hint) y.call f s.0) (sym c) s.2);
+  served = λ r e. let s = i.served r (sym d ∙ e) in (s.0, s.1, s.2, subst (λ (y : ClientState). IsFrom x h seed k (scheme_held y.hint) y.call s.0 s.1) (sym c) s.3);
 }
 
 -- ---- a client's steps are beside another's
 
 module _ (j k : ℕ) (ne : k ≢ j) where
-  reports_aside : (call : Call) (reply : Frame) (e : Event) → IsAside j (reports k call reply e)
-  reports_aside (Ask i s v n) reply e = ne
-  reports_aside Idle reply e = ne
-  reports_aside (Hello key) reply e = ne
-  reports_aside (Sync scheme v p) reply e = ne
-  reports_aside (Delta since) reply e = ne
-  reports_aside (Changes since) reply e = ne
-  reports_aside (Edit i bytes) reply e = ne
-  reports_aside (Append bytes) reply e = ne
-  reports_aside Publish reply e = ne
+  reports_aside : (z : Scheme) (call : Call) (reply : Frame) (e : Event) → IsAside j (reports k z call reply e)
+  reports_aside z (Ask i v n) reply e = ne
+  reports_aside z Idle reply e = ne
+  reports_aside z Hello reply e = ne
+  reports_aside z (Sync scheme v p) reply e = ne
+  reports_aside z (Delta since) reply e = ne
+  reports_aside z (Changes since) reply e = ne
+  reports_aside z Edit reply e = ne
+  reports_aside z Append reply e = ne
+  reports_aside z Publish reply e = ne
 
-  reacts_aside : (call : Call) (reply : Frame) (r : Reaction) → AllByRecursion (IsAside j) (reacts k call reply r)
-  reacts_aside call reply (Asks scheme version part) = (ne, tt)
-  reacts_aside call reply (Reports e) = (reports_aside call reply e, tt)
-  reacts_aside call reply (Fails fault) = (ne, tt)
+  reacts_aside : (z : Scheme) (call : Call) (reply : Frame) (r : Reaction) → AllByRecursion (IsAside j) (reacts k z call reply r)
+  reacts_aside z call reply (Asks scheme version part) = (ne, tt)
+  reacts_aside z call reply (Reports e) = (reports_aside z call reply e, tt)
+  reacts_aside z call reply (Fails fault) = (ne, tt)
 
   pub reported_aside : (c : ClientState) (fs : List Frame) → AllByRecursion (IsAside j) (reported_by k c fs)
   reported_aside c [] = tt
   reported_aside c (f ∷ fs) =
       let t = reaction_to_reply c f in
-      all_append (IsAside j) (reacts k c.call f t.reaction) _ (reacts_aside c.call f t.reaction)
+      all_append (IsAside j) (reacts k (scheme_held c.hint) c.call f t.reaction) _ (reacts_aside (scheme_held c.hint) c.call f t.reaction)
       (cond_both (is_some (fault_of t.reaction)) [] (reported_by k t.state fs) (λ es. AllByRecursion (IsAside j) es) (λ e. tt) (λ e. reported_aside t.state fs))
 
   pub served_asides : (x : Setting) (short : Bool) (t : Turn) (fs : List Frame) → AllByRecursion (IsAside j) t.log
@@ -198,21 +199,21 @@ module _ (x : Setting) (h h2 : History) (later : IsLater h h2) where
   each_later seeds before [] p = tt
   each_later seeds before (e ∷ es) p = (earlier_later seeds before e p.0, each_later seeds (before ++ e ∷ []) es p.1)
 
-  from_later : (seed : List ℕ) (k : ℕ) (call : Call) (f : Frame) (first : List Entry) → IsFrom x h seed k call f first → IsFrom x h2 seed k call f first
-  from_later seed k (Ask i s v n) f first p = asked_later seed k _ f first p
-  from_later seed k Idle f first p = tt
-  from_later seed k (Hello key) f first p = tt
-  from_later seed k (Sync scheme v n) f first p = p
-  from_later seed k (Delta since) f first p = p
-  from_later seed k (Changes since) f first p = p
-  from_later seed k (Edit i bytes) f first p = tt
-  from_later seed k (Append bytes) f first p = tt
-  from_later seed k Publish f first p = tt
+  from_later : (seed : List ℕ) (k : ℕ) (z : Scheme) (call : Call) (f : Frame) (first : List Entry) → IsFrom x h seed k z call f first → IsFrom x h2 seed k z call f first
+  from_later seed k z (Ask i v n) f first p = asked_later seed k _ f first p
+  from_later seed k z Idle f first p = tt
+  from_later seed k z Hello f first p = tt
+  from_later seed k z (Sync scheme v n) f first p = p
+  from_later seed k z (Delta since) f first p = p
+  from_later seed k z (Changes since) f first p = p
+  from_later seed k z Edit f first p = tt
+  from_later seed k z Append f first p = tt
+  from_later seed k z Publish f first p = tt
 
   pub log_later : (seed : List ℕ) (k : ℕ) (l : Link) (log : List Entry) → LogInvariant x h seed k l log → LogInvariant x h2 seed k l log
   log_later seed k l log i = record {
     number = i.number;
     hint = i.hint;
-    sent = λ f e. let s = i.sent f e in (s.0, s.1, from_later seed k l.client.call f s.0 s.2);
-    served = λ r e. let s = i.served r e in (s.0, s.1, s.2, from_later seed k l.client.call s.0 s.1 s.3);
+    sent = λ f e. let s = i.sent f e in (s.0, s.1, from_later seed k (scheme_held l.client.hint) l.client.call f s.0 s.2);
+    served = λ r e. let s = i.served r e in (s.0, s.1, s.2, from_later seed k (scheme_held l.client.hint) l.client.call s.0 s.1 s.3);
   }

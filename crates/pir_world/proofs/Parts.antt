@@ -6,6 +6,7 @@ use Rattle.std.proofs.lemmas.List.{append-nil}
 use Rattle.std.proofs.lemmas.List.Concat.{flat_map-append}
 use Rattle.std.proofs.lemmas.Bool.{cases_eq}
 use Rattle.frame_codec.specs.declared.frame.Frame.{Frame}
+use Rattle.pir_schemes.specs.declared.scheme.Scheme.{Scheme}
 use Rattle.version_store.specs.Histories.{History, StandsFor}
 use Rattle.server_core.specs.Cores.{Core, session_of}
 use Rattle.server_core.specs.Serving.{Setting, setting_of}
@@ -35,7 +36,7 @@ use Rattle.pir_world.proofs.Later.{get_same, get_other}
 use Rattle.pir_world.proofs.Wires.{IsFew, split_few}
 use Rattle.frame_codec.specs.Streams.{IsFrameOf}
 use Rattle.pir_schemes.specs.Plans.{accepts_profile}
-use Rattle.client_core.specs.States.{is_wide_client}
+use Rattle.client_core.specs.States.{is_wide_client, scheme_held}
 use Rattle.server_core.specs.Serving.{is_wide_setting}
 use Rattle.pir_world.proofs.FrameKinds.{Known, call_known, profile_wide}
 use Rattle.pir_world.proofs.Bytes.{carries_more}
@@ -76,28 +77,28 @@ one_replaced x core core2 ends os s k e e2 l l2 y2 p at lat yat others i j = eli
 
 -- ---- what is written down tells the outcomes
 
-reports_event : (k : ℕ) (c : Call) (reply : Frame) (e : Event) → outcome_of (reports k c reply e) ≡ Reported k e ∷ []
-reports_event k call.Idle reply e = refl
-reports_event k (call.Hello key) reply e = refl
-reports_event k (call.Sync scheme version part) reply e = refl
-reports_event k (call.Delta since) reply e = refl
-reports_event k (call.Changes since) reply e = refl
-reports_event k (call.Ask i s v n) reply e = refl
-reports_event k (call.Edit i bytes) reply e = refl
-reports_event k (call.Append bytes) reply e = refl
-reports_event k call.Publish reply e = refl
+reports_event : (k : ℕ) (z : Scheme) (c : Call) (reply : Frame) (e : Event) → outcome_of (reports k z c reply e) ≡ Reported k e ∷ []
+reports_event k z call.Idle reply e = refl
+reports_event k z call.Hello reply e = refl
+reports_event k z (call.Sync scheme version part) reply e = refl
+reports_event k z (call.Delta since) reply e = refl
+reports_event k z (call.Changes since) reply e = refl
+reports_event k z (call.Ask i v n) reply e = refl
+reports_event k z call.Edit reply e = refl
+reports_event k z call.Append reply e = refl
+reports_event k z call.Publish reply e = refl
 
-reacts_events : (k : ℕ) (c : Call) (reply : Frame) (r : Reaction) → fault_of r ≡ None → outcomes_of (reacts k c reply r) ≡ map (Reported k) (events_of r)
-reacts_events k c reply (Asks scheme version part) e = refl
-reacts_events k c reply (Reports event) e = append-nil _ ∙ reports_event k c reply event
-reacts_events k c reply (Fails fault) e = absurd cc
+reacts_events : (k : ℕ) (z : Scheme) (c : Call) (reply : Frame) (r : Reaction) → fault_of r ≡ None → outcomes_of (reacts k z c reply r) ≡ map (Reported k) (events_of r)
+reacts_events k z c reply (Asks scheme version part) e = refl
+reacts_events k z c reply (Reports event) e = append-nil _ ∙ reports_event k z c reply event
+reacts_events k z c reply (Fails fault) e = absurd cc
 
 one_reported : (k : ℕ) (c : ClientState) (r : Frame) → fault_of (reaction_to_reply c r).reaction ≡ None →
     outcomes_of (reported_by k c (r ∷ [])) ≡ map (Reported k) (takes_all c (r ∷ [])).events
 one_reported k c r e =
-    ap (λ (b : Bool). outcomes_of (reacts k c.call r (reaction_to_reply c r).reaction ++ cond b [] [])) (ap is_some e)
-    ∙ ap (λ (es : List Entry). outcomes_of es) (append-nil (reacts k c.call r (reaction_to_reply c r).reaction))
-    ∙ reacts_events k c.call r (reaction_to_reply c r).reaction e
+    ap (λ (b : Bool). outcomes_of (reacts k (scheme_held c.hint) c.call r (reaction_to_reply c r).reaction ++ cond b [] [])) (ap is_some e)
+    ∙ ap (λ (es : List Entry). outcomes_of es) (append-nil (reacts k (scheme_held c.hint) c.call r (reaction_to_reply c r).reaction))
+    ∙ reacts_events k (scheme_held c.hint) c.call r (reaction_to_reply c r).reaction e
 
 few_reported : (k : ℕ) (c : ClientState) (fs : List Frame) → IsFew fs → (takes_all c fs).fault ≡ None →
     outcomes_of (reported_by k c fs) ≡ map (Reported k) (takes_all c fs).events
@@ -180,21 +181,21 @@ module _ (x : Setting) (core : Core) (ends : List Side) (os : List Outcome) (s :
       e2.client.reader ≡ e.client.reader → e2.up ≡ e.up ++ bytes → e2.down ≡ e.down
       → (refusal w l.client ≡ None) × EndIs (is_wide_setting x) e2 session (link_called w l)
   accepted_end w session l i profile bytes a reader up down =
-      let c : ClientState = state_after_call w l.client in
-      let state : e2.client.state ≡ c = a.state ∙ ap (λ (y : ClientState). state_after_call w y) i.client_is in
-      let fits : IsFrame (call_frame c c.call) = subst (λ (y : ClientState). IsFrame (call_frame y y.call)) state a.fits in
+      let f : Frame = call_frame w l.client in
+      let state : e2.client.state ≡ state_after_call w l.client = a.state ∙ ap (λ (y : ClientState). state_after_call w y) i.client_is in
+      let fits : IsFrame f = subst (λ (y : ClientState). IsFrame (call_frame w y)) i.client_is a.fits in
       let wide : is_wide_client l.client ≡ is_wide_setting x = profile_wide x.plan l.client.profile profile in
-      let known : Known (is_wide_setting x) (call_frame c c.call) = subst (λ (b : Bool). Known b (call_frame c c.call)) wide (call_known w l.client) in
-      let each : AllByRecursion (IsFrameOf (is_wide_setting x)) (call_frame c c.call ∷ []) = (record { frame = fits; known = known }, tt) in
-      let written : e2.up ≡ e.up ++ flat_map encoding (call_frame c c.call ∷ []) =
-      up ∙ ap (λ (b : List ℕ). e.up ++ b) (a.written ∙ ap (λ (y : ClientState). encoding (call_frame y y.call)) state
-      ∙ sym (append-nil (encoding (call_frame c c.call)))) in (
+      let known : Known (is_wide_setting x) f = subst (λ (b : Bool). Known b f) wide (call_known w l.client) in
+      let each : AllByRecursion (IsFrameOf (is_wide_setting x)) (f ∷ []) = (record { frame = fits; known = known }, tt) in
+      let written : e2.up ≡ e.up ++ flat_map encoding (f ∷ []) =
+      up ∙ ap (λ (b : List ℕ). e.up ++ b) (a.written ∙ ap (λ (y : ClientState). encoding (call_frame w y)) i.client_is
+      ∙ sym (append-nil (encoding f))) in (
         ap (λ (y : ClientState). refusal w y) (sym i.client_is) ∙ a.may,
         record {
           client_is = state;
           standing_is = i.standing_is;
-          up = subst (λ (b : List ℕ). Carries (is_wide_setting x) session.unfinished b (sent l.up (call_frame c c.call ∷ []))) (sym written)
-              (carries_more (is_wide_setting x) session.unfinished e.up l.up (call_frame c c.call ∷ []) each i.up);
+          up = subst (λ (b : List ℕ). Carries (is_wide_setting x) session.unfinished b (sent l.up (f ∷ []))) (sym written)
+              (carries_more (is_wide_setting x) session.unfinished e.up l.up (f ∷ []) each i.up);
           down = subst (λ (b : List ℕ). Carries (is_wide_setting x) e2.client.reader b l.down) (sym down)
               (subst (λ (r : Option (List ℕ)). Carries (is_wide_setting x) r e.down l.down) (sym reader) i.down);
         },
@@ -209,7 +210,7 @@ module _ (x : Setting) (core : Core) (ends : List Side) (os : List Outcome) (s :
         setting_is = p.setting_is;
         store_is = p.store_is;
         ends_are = one_replaced x core core ends os s k e e2 m.link (link_called w m.link) m.session p at m.link_is m.session_is (λ j ne. refl) t.1;
-        outcomes_are = outcomes_more s.log (Called k w None ∷ Sent k (call_frame (link_called w m.link).client (link_called w m.link).client.call) ∷ []) os []
+        outcomes_are = outcomes_more s.log (Called k w None ∷ Sent k (call_frame w m.link.client) ∷ []) os []
             p.outcomes_are refl;
       })
   parts_called seeds inv w (Some fault) c =

@@ -21,11 +21,12 @@ use Rattle.client_core.specs.declared.state.ServerInfo.{ServerInfo}
 use Rattle.client_core.specs.declared.state.Call.{Call}
 use Rattle.client_core.specs.declared.state.Hint.{Hint}
 use Rattle.client_core.specs.declared.state.Call.TheVariants.{Idle, Hello, Sync, Delta, Changes, Ask, Edit, Append, Publish}
-use Rattle.client_core.specs.Calls.{call_frame, call_words}
+use Rattle.client_core.specs.States.{scheme_held}
+use Rattle.client_core.specs.Calls.{call_words}
 use Rattle.pir_world.specs.Runs.{Turn, Retrieval, Served, served_or, serves, reader_key}
 use Rattle.pir_world.specs.Versions.{HasVersion, IsVersion, HintIs, asked_words}
 use Rattle.pir_world.specs.Headlines.{IsRightReply, IsRightQuery, IsRight}
-use Rattle.pir_world.specs.Invariants.{GoodHistory, IsKnownOf, KnownIs, SyncIs, AskIs, CallIs, IsReply, InFlight, Phase}
+use Rattle.pir_world.specs.Invariants.{GoodHistory, IsKnownOf, KnownIs, SyncIs, AskIs, CallIs, IsReply, outstanding_frame, InFlight, Phase}
 use Rattle.pir_world.proofs.Later.{newest, one_version, records_at}
 use Rattle.hint_changes.specs.Changes.{changes_between}
 use Rattle.record_log.specs.OldRecords.{entries_bytes}
@@ -40,11 +41,11 @@ abbrev pub IsServed : Setting → History → ℕ → Frame → Option Frame →
 IsServed x h now f reply = (seeds : List (List ℕ)) (k : ℕ) → IsRight x seeds h (Served k f now reply)
 
 -- what serving the outstanding call's frame leads to
-pub record Replied (x : Setting) (h : History) (seed : List ℕ) (st : Standing) (call : Call) (f : Frame) (o : Outcome) : Type 0 where
+pub record Replied (x : Setting) (h : History) (seed : List ℕ) (st : Standing) (z : Scheme) (call : Call) (f : Frame) (o : Outcome) : Type 0 where
   pub history_is : o.history ≡ h
   pub unclosed : is_closed o.standing ≡ false
   pub reader : st ≡ Reader → o.standing ≡ Reader
-  pub reply : (r : Frame) × (o.reply ≡ Some r) × IsReply x h o.standing seed call r
+  pub reply : (r : Frame) × (o.reply ≡ Some r) × IsReply x h o.standing seed z call r
   pub right : IsServed x h (current_version h) f o.reply
 
 now_is : (h : History) (v : ℕ) → v ≡ current_version h → HasVersion h v h.current
@@ -58,9 +59,9 @@ reader_key_is : is_reader_key (replicate 32 0) ≡ true
 unfolding is_reader_key
 reader_key_is = refl
 
-welcomed : (short : Bool) (x : Setting) (h : History) (seed : List ℕ) (st : Standing) (profile : ℕ) → accepts_profile x.plan profile ≡ true →
-    Replied x h seed st (Hello reader_key) (frame.Hello profile reader_key) (served_or short x h st (frame.Hello profile reader_key))
-welcomed false x h seed st profile asked =
+welcomed : (short : Bool) (x : Setting) (h : History) (seed : List ℕ) (st : Standing) (z : Scheme) (profile : ℕ) → accepts_profile x.plan profile ≡ true →
+    Replied x h seed st z Hello (frame.Hello profile reader_key) (served_or short x h st (frame.Hello profile reader_key))
+welcomed false x h seed st z profile asked =
     rw (asked, reader_key_is) (record {
       history_is = refl;
       unclosed = refl;
@@ -69,7 +70,7 @@ welcomed false x h seed st profile asked =
           (_, refl, (refl, (current_version h, h.current, newest h, refl)));
       right = λ seeds k. tt;
     })
-welcomed true x h seed st profile asked =
+welcomed true x h seed st z profile asked =
     rw (asked, reader_key_is) (record {
       history_is = refl;
       unclosed = refl;
@@ -96,9 +97,9 @@ part_there : (x : Setting) (s : Scheme) (records : List (List ℕ)) (p : ℕ) �
 unfolding has_part
 part_there x s records p lt = lt-ltb _ _ lt
 
-module _ (x : Setting) (h : History) (seed : List ℕ) (s : Scheme) (v p : ℕ) where
+module _ (x : Setting) (h : History) (seed : List ℕ) (z s : Scheme) (v p : ℕ) where
   now : (short : Bool) → (v == current_version h) ≡ true → has_part x s h.current p ≡ true →
-      Replied x h seed Reader (Sync s v p) (frame.HintAsk (scheme_byte s) v p) (served_or short x h Reader (frame.HintAsk (scheme_byte s) v p))
+      Replied x h seed Reader z (Sync s v p) (frame.HintAsk (scheme_byte s) v p) (served_or short x h Reader (frame.HintAsk (scheme_byte s) v p))
   now false t in_ =
       let e : v ≡ current_version h = eqb-true v (current_version h) t in
       rw (byte_names s, t, in_)
@@ -106,7 +107,7 @@ module _ (x : Setting) (h : History) (seed : List ℕ) (s : Scheme) (v p : ℕ) 
   now true t in_ = rw (byte_names s, t, in_) (record { history_is = refl; unclosed = refl; reader = λ e. e; reply = (_, refl, inl refl); right = λ seeds k. tt })
 
   old : (short : Bool) → (v == current_version h) ≡ false → v < current_version h →
-      Replied x h seed Reader (Sync s v p) (frame.HintAsk (scheme_byte s) v p) (served_or short x h Reader (frame.HintAsk (scheme_byte s) v p))
+      Replied x h seed Reader z (Sync s v p) (frame.HintAsk (scheme_byte s) v p) (served_or short x h Reader (frame.HintAsk (scheme_byte s) v p))
   old false t lt = rw (byte_names s, t)
       (record {
         history_is = refl;
@@ -125,7 +126,7 @@ module _ (x : Setting) (h : History) (seed : List ℕ) (s : Scheme) (v p : ℕ) 
       })
 
   replied_sync : (short : Bool) (known : Option ServerInfo) (parts : List ℕ) → SyncIs x h s v p known parts →
-      Replied x h seed Reader (Sync s v p) (frame.HintAsk (scheme_byte s) v p) (served_or short x h Reader (frame.HintAsk (scheme_byte s) v p))
+      Replied x h seed Reader z (Sync s v p) (frame.HintAsk (scheme_byte s) v p) (served_or short x h Reader (frame.HintAsk (scheme_byte s) v p))
   replied_sync short known parts i = elim (cases_Bool (v == current_version h)) [
     | inl t ↦
         let e : i.records ≡ h.current = one_version h v i.records h.current i.version_is (now_is h v (eqb-true v (current_version h) t)) in
@@ -135,8 +136,8 @@ module _ (x : Setting) (h : History) (seed : List ℕ) (s : Scheme) (v p : ℕ) 
 
 -- ---- the rows that changed
 
-module _ (x : Setting) (h : History) (g : GoodHistory x h) (seed : List ℕ) (since : ℕ) (before : List (List ℕ)) (there : HasVersion h since before) where
-  no_rows : Replied x h seed Reader (Delta since) (frame.DeltaAsk since) (no_delta Reader h)
+module _ (x : Setting) (h : History) (g : GoodHistory x h) (seed : List ℕ) (z : Scheme) (since : ℕ) (before : List (List ℕ)) (there : HasVersion h since before) where
+  no_rows : Replied x h seed Reader z (Delta since) (frame.DeltaAsk since) (no_delta Reader h)
   no_rows = record {
     history_is = refl;
     unclosed = refl;
@@ -146,7 +147,7 @@ module _ (x : Setting) (h : History) (g : GoodHistory x h) (seed : List ℕ) (si
   }
 
   some_rows : (rows : List ℕ) → CoversChanges x.plan before h.current rows → (nat_le (length rows) 1024 ≡ true) ⊎ (nat_le (length rows) 1024 ≡ false)
-      → Replied x h seed Reader (Delta since) (frame.DeltaAsk since) (delta_asked x h Reader since (Some rows))
+      → Replied x h seed Reader z (Delta since) (frame.DeltaAsk since) (delta_asked x h Reader since (Some rows))
   some_rows rows n (inl t) = rw t (record {
     history_is = refl;
     unclosed = refl;
@@ -172,11 +173,11 @@ module _ (x : Setting) (h : History) (g : GoodHistory x h) (seed : List ℕ) (si
   some_rows rows n (inr t) = rw t no_rows
 
   asked_rows : (o : Option (List ℕ)) → delta_rows x.plan h since ≡ o →
-      Replied x h seed Reader (Delta since) (frame.DeltaAsk since) (delta_asked x h Reader since o)
+      Replied x h seed Reader z (Delta since) (frame.DeltaAsk since) (delta_asked x h Reader since o)
   asked_rows None e = no_rows
   asked_rows (Some rows) e = some_rows rows (rows_cover x.plan h since before rows there e) (cases_Bool (nat_le (length rows) 1024))
 
-  replied_delta : (short : Bool) → Replied x h seed Reader (Delta since) (frame.DeltaAsk since) (served_or short x h Reader (frame.DeltaAsk since))
+  replied_delta : (short : Bool) → Replied x h seed Reader z (Delta since) (frame.DeltaAsk since) (served_or short x h Reader (frame.DeltaAsk since))
   replied_delta false = asked_rows (delta_rows x.plan h since) refl
   replied_delta true =
       rw (delta_granted x h Reader since (delta_rows x.plan h since))
@@ -184,9 +185,9 @@ module _ (x : Setting) (h : History) (g : GoodHistory x h) (seed : List ℕ) (si
 
 -- ---- the records that changed
 
-module _ (x : Setting) (h : History) (g : GoodHistory x h) (seed : List ℕ) (since : ℕ) (before : List (List ℕ)) (there : HasVersion h since before)
+module _ (x : Setting) (h : History) (g : GoodHistory x h) (seed : List ℕ) (z : Scheme) (since : ℕ) (before : List (List ℕ)) (there : HasVersion h since before)
     (wide : is_wide_setting x ≡ true) where
-  no_changes : Replied x h seed Reader (Changes since) (frame.ChangesAsk since) (no_delta Reader h)
+  no_changes : Replied x h seed Reader z (Changes since) (frame.ChangesAsk since) (no_delta Reader h)
   no_changes = record {
     history_is = refl;
     unclosed = refl;
@@ -210,7 +211,7 @@ module _ (x : Setting) (h : History) (g : GoodHistory x h) (seed : List ℕ) (si
       version_there
 
   some_changes : (entries : List ℕ) → changes_since x.plan h since (most_changes x) ≡ Some entries →
-      Replied x h seed Reader (Changes since) (frame.ChangesAsk since) (changes_asked x h Reader since (Some entries))
+      Replied x h seed Reader z (Changes since) (frame.ChangesAsk since) (changes_asked x h Reader since (Some entries))
   unfolding between
   some_changes entries e = record {
     history_is = refl;
@@ -233,11 +234,11 @@ module _ (x : Setting) (h : History) (g : GoodHistory x h) (seed : List ℕ) (si
   }
 
   asked_changes : (o : Option (List ℕ)) → changes_since x.plan h since (most_changes x) ≡ o →
-      Replied x h seed Reader (Changes since) (frame.ChangesAsk since) (changes_asked x h Reader since o)
+      Replied x h seed Reader z (Changes since) (frame.ChangesAsk since) (changes_asked x h Reader since o)
   asked_changes None e = no_changes
   asked_changes (Some entries) e = some_changes entries e
 
-  replied_changes : (short : Bool) → Replied x h seed Reader (Changes since) (frame.ChangesAsk since) (served_or short x h Reader (frame.ChangesAsk since))
+  replied_changes : (short : Bool) → Replied x h seed Reader z (Changes since) (frame.ChangesAsk since) (served_or short x h Reader (frame.ChangesAsk since))
   replied_changes false = rw wide (asked_changes (changes_since x.plan h since (most_changes x)) refl)
   replied_changes true =
       rw (wide, changes_granted x h Reader since (changes_since x.plan h since (most_changes x)))
@@ -263,7 +264,7 @@ module _ (x : Setting) (h : History) (seed : List ℕ) (i : ℕ) (s : Scheme) (v
   -- the words that are asked, under a short name
   answer_now : (short : Bool) (words : List ℕ) → words ≡ asked_words x.plan records seed retrieval → (v == current_version h) ≡ true → records ≡ h.current →
       (length words == words_asked x s h.current) ≡ true →
-      Replied x h seed Reader (Ask i s v n) (frame.Query (scheme_byte s) v words) (served_or short x h Reader (frame.Query (scheme_byte s) v words))
+      Replied x h seed Reader s (Ask i v n) (frame.Query (scheme_byte s) v words) (served_or short x h Reader (frame.Query (scheme_byte s) v words))
   answer_now false words w t same fit =
       let e : v ≡ current_version h = eqb-true v (current_version h) t in
       rw (byte_names s, t, fit) (record {
@@ -286,7 +287,7 @@ module _ (x : Setting) (h : History) (seed : List ℕ) (i : ℕ) (s : Scheme) (v
       })
 
   answer_old : (short : Bool) (words : List ℕ) → (v == current_version h) ≡ false →
-      Replied x h seed Reader (Ask i s v n) (frame.Query (scheme_byte s) v words) (served_or short x h Reader (frame.Query (scheme_byte s) v words))
+      Replied x h seed Reader s (Ask i v n) (frame.Query (scheme_byte s) v words) (served_or short x h Reader (frame.Query (scheme_byte s) v words))
   answer_old false words t =
       let ne : v ≡ current_version h → ⊥ = eqb-false v (current_version h) t in
       rw (byte_names s, t) (record {
@@ -309,7 +310,7 @@ module _ (x : Setting) (h : History) (seed : List ℕ) (i : ℕ) (s : Scheme) (v
       })
 
   pub replied_ask : (short : Bool) (words : List ℕ) → words ≡ asked_words x.plan records seed retrieval →
-      Replied x h seed Reader (Ask i s v n) (frame.Query (scheme_byte s) v words) (served_or short x h Reader (frame.Query (scheme_byte s) v words))
+      Replied x h seed Reader s (Ask i v n) (frame.Query (scheme_byte s) v words) (served_or short x h Reader (frame.Query (scheme_byte s) v words))
   replied_ask short words w = elim (cases_Bool (v == current_version h)) [
     | inl t ↦
         let same : records ≡ h.current = one_version h v records h.current there (now_is h v (eqb-true v (current_version h) t)) in
@@ -333,20 +334,20 @@ module _ (x : Setting) (seeds : List (List ℕ)) (k : ℕ) (h : History) (seed :
       → ServedLink x seeds h seed st c call (serves x short k h st fs) up (down ++ (serves x short k h st fs).replies)
   nothing_comes short call fs up down o e p = rw e (record { history_is = refl; unclosed = o; reader = λ x. x; phase = rw append-nil p; right = tt })
 
-  flight_phase : (s : Standing) (call : Call) (up down : List Frame) (r : Frame) → up ≡ [] → down ≡ r ∷ [] → IsReply x h s seed call r →
+  flight_phase : (s : Standing) (call : Call) (up down : List Frame) (r : Frame) → up ≡ [] → down ≡ r ∷ [] → IsReply x h s seed (scheme_held c.hint) call r →
       Phase x h s seed c call up down
   flight_phase s Idle up down r e d p = absurd p
-  flight_phase s (Hello key) up down r e d p = inr (e, (r, d, p))
+  flight_phase s Hello up down r e d p = inr (e, (r, d, p))
   flight_phase s (Sync scheme v q) up down r e d p = inr (e, (r, d, p))
   flight_phase s (Delta since) up down r e d p = inr (e, (r, d, p))
   flight_phase s (Changes since) up down r e d p = inr (e, (r, d, p))
-  flight_phase s (Ask i z v n) up down r e d p = inr (e, (r, d, p))
-  flight_phase s (Edit i bytes) up down r e d p = absurd p
-  flight_phase s (Append bytes) up down r e d p = absurd p
+  flight_phase s (Ask i v n) up down r e d p = inr (e, (r, d, p))
+  flight_phase s Edit up down r e d p = absurd p
+  flight_phase s Append up down r e d p = absurd p
   flight_phase s Publish up down r e d p = absurd p
 
-  frame_comes : (short : Bool) (call : Call) (fs up down : List Frame) → is_closed st ≡ false → fs ≡ call_frame c call ∷ [] → up ≡ [] → down ≡ []
-      → Replied x h seed st call (call_frame c call) (served_or short x h st (call_frame c call)) →
+  frame_comes : (short : Bool) (call : Call) (fs up down : List Frame) → is_closed st ≡ false → fs ≡ outstanding_frame c call ∷ [] → up ≡ [] → down ≡ []
+      → Replied x h seed st (scheme_held c.hint) call (outstanding_frame c call) (served_or short x h st (outstanding_frame c call)) →
       ServedLink x seeds h seed st c call (serves x short k h st fs) up (down ++ (serves x short k h st fs).replies)
   frame_comes short call fs up down o e u d r = rw (e, o, d) (record {
     history_is = r.history_is;
@@ -357,7 +358,7 @@ module _ (x : Setting) (seeds : List (List ℕ)) (k : ℕ) (h : History) (seed :
   })
 
   served_flight : (short : Bool) (call : Call) (up fs up2 down : List Frame) → Split up fs up2 → is_closed st ≡ false
-      → Replied x h seed st call (call_frame c call) (served_or short x h st (call_frame c call)) → InFlight x h st seed c call up down →
+      → Replied x h seed st (scheme_held c.hint) call (outstanding_frame c call) (served_or short x h st (outstanding_frame c call)) → InFlight x h st seed c call up down →
       Phase x h st seed c call up down
       → ServedLink x seeds h seed st c call (serves x short k h st fs) up2 (down ++ (serves x short k h st fs).replies)
   served_flight short call up fs up2 down (inl a) o r p ph = nothing_comes short call fs up2 down o a.0 (rw a.1 ph)
@@ -373,7 +374,7 @@ module _ (x : Setting) (seeds : List (List ℕ)) (k : ℕ) (h : History) (seed :
   known_is o y k e = let P : Option ServerInfo → Type 0 = λ z. KnownIs x h st z in subst P e k
 
   -- the words of an ask are those of its retrieval's query
-  pub ask_words : (j : ℕ) (scheme : Scheme) (v n : ℕ) → c.seed ≡ seed → KnownIs x h st c.known → HintIs x h c.hint → AskIs c j scheme v
+  pub ask_words : (j : ℕ) (scheme : Scheme) (v n : ℕ) → c.seed ≡ seed → KnownIs x h st c.known → HintIs x h c.hint → AskIs c j v
       → (records : List (List ℕ)) × HasVersion h v records
       × (call_words c.known scheme c.seed n j ≡ asked_words x.plan records seed (record { index = j; scheme = scheme; version = v; number = n }))
   ask_words j scheme v n s known hint i =
@@ -388,32 +389,33 @@ module _ (x : Setting) (seeds : List (List ℕ)) (k : ℕ) (h : History) (seed :
 
   -- the outstanding call's frame is served
   replied : GoodHistory x h → (short : Bool) (call : Call) → (call ≡ Idle → ⊥) → c.seed ≡ seed → accepts_profile x.plan c.profile ≡ true → KnownIs x h st c.known → HintIs x h c.hint → CallIs x h c call →
-      Replied x h seed st call (call_frame c call) (served_or short x h st (call_frame c call))
+      Replied x h seed st (scheme_held c.hint) call (outstanding_frame c call) (served_or short x h st (outstanding_frame c call))
   replied g short Idle busy s asked known hint i = absurd (busy refl)
-  replied g short (Hello key) busy s asked known hint i = rw i (welcomed short x h seed st c.profile asked)
+  replied g short Hello busy s asked known hint i = welcomed short x h seed st (scheme_held c.hint) c.profile asked
   replied g short (Sync scheme v p) busy s asked known hint i =
-      subst (λ (y : Standing). Replied x h seed y (Sync scheme v p) (frame.HintAsk (scheme_byte scheme) v p)
+      subst (λ (y : Standing). Replied x h seed y (scheme_held c.hint) (Sync scheme v p) (frame.HintAsk (scheme_byte scheme) v p)
       (served_or short x h y (frame.HintAsk (scheme_byte scheme) v p)))
-      (sym (known_is c.known i.k known i.known_is).0) (replied_sync x h seed scheme v p short c.known c.parts i)
+      (sym (known_is c.known i.k known i.known_is).0) (replied_sync x h seed (scheme_held c.hint) scheme v p short c.known c.parts i)
   replied g short (Delta since) busy s asked known hint i =
       let y = known_is c.known i.k known i.known_is in
       let v = hint_version c.hint i.hint since hint i.hint_is i.version_is in
-      subst (λ (z : Standing). Replied x h seed z (Delta since) (frame.DeltaAsk since) (served_or short x h z (frame.DeltaAsk since)))
-      (sym y.0) (replied_delta x h g seed since v.0 v.1 short)
+      subst (λ (z : Standing). Replied x h seed z (scheme_held c.hint) (Delta since) (frame.DeltaAsk since) (served_or short x h z (frame.DeltaAsk since)))
+      (sym y.0) (replied_delta x h g seed (scheme_held c.hint) since v.0 v.1 short)
   replied g short (Changes since) busy s asked known hint i =
       let y = known_is c.known i.0.k known i.0.known_is in
       let v = hint_version c.hint i.0.hint since hint i.0.hint_is i.0.version_is in
       let wide : is_wide_setting x ≡ true = sym (profile_wide x.plan c.profile asked) ∙ i.1 in
-      subst (λ (z : Standing). Replied x h seed z (Changes since) (frame.ChangesAsk since) (served_or short x h z (frame.ChangesAsk since)))
-      (sym y.0) (replied_changes x h g seed since v.0 v.1 wide short)
-  replied g short (Ask j scheme v n) busy s asked known hint i =
+      subst (λ (z : Standing). Replied x h seed z (scheme_held c.hint) (Changes since) (frame.ChangesAsk since) (served_or short x h z (frame.ChangesAsk since)))
+      (sym y.0) (replied_changes x h g seed (scheme_held c.hint) since v.0 v.1 wide short)
+  replied g short (Ask j v n) busy s asked known hint i =
+      let scheme : Scheme = scheme_held c.hint in
       let y = known_is c.known i.k known i.known_is in
       let w = ask_words j scheme v n s known hint i in
-      subst (λ (z : Standing). Replied x h seed z (Ask j scheme v n) (frame.Query (scheme_byte scheme) v (call_words c.known scheme c.seed n j))
+      subst (λ (z : Standing). Replied x h seed z scheme (Ask j v n) (frame.Query (scheme_byte scheme) v (call_words c.known scheme c.seed n j))
       (served_or short x h z (frame.Query (scheme_byte scheme) v (call_words c.known scheme c.seed n j))))
       (sym y.0) (replied_ask x h seed j scheme v n w.0 w.1 short (call_words c.known scheme c.seed n j) w.2)
-  replied g short (Edit j bytes) busy s asked known hint i = absurd i
-  replied g short (Append bytes) busy s asked known hint i = absurd i
+  replied g short Edit busy s asked known hint i = absurd i
+  replied g short Append busy s asked known hint i = absurd i
   replied g short Publish busy s asked known hint i = absurd i
 
   -- what the server makes of the frames that come of a link, which are none or all
@@ -422,16 +424,16 @@ module _ (x : Setting) (seeds : List (List ℕ)) (k : ℕ) (h : History) (seed :
       → Phase x h st seed c call up down → ServedLink x seeds h seed st c call (serves x short k h st fs) up2 (down ++ (serves x short k h st fs).replies)
   served_link g short Idle up fs up2 down (inl a) o s asked known hint i p = nothing_comes short Idle fs up2 down o a.0 (a.1 ∙ p.0, p.1)
   served_link g short Idle up fs up2 down (inr a) o s asked known hint i p = nothing_comes short Idle fs up2 down o (a.0 ∙ p.0) (a.1, p.1)
-  served_link g short (Hello key) up fs up2 down a o s asked known hint i p =
-      served_flight short (Hello key) up fs up2 down a o (replied g short (Hello key) (λ e. (cc)) s asked known hint i) p p
+  served_link g short Hello up fs up2 down a o s asked known hint i p =
+      served_flight short Hello up fs up2 down a o (replied g short Hello (λ e. (cc)) s asked known hint i) p p
   served_link g short (Sync scheme v q) up fs up2 down a o s asked known hint i p =
       served_flight short (Sync scheme v q) up fs up2 down a o (replied g short (Sync scheme v q) (λ e. (cc)) s asked known hint i) p p
   served_link g short (Delta since) up fs up2 down a o s asked known hint i p =
       served_flight short (Delta since) up fs up2 down a o (replied g short (Delta since) (λ e. (cc)) s asked known hint i) p p
   served_link g short (Changes since) up fs up2 down a o s asked known hint i p =
       served_flight short (Changes since) up fs up2 down a o (replied g short (Changes since) (λ e. (cc)) s asked known hint i) p p
-  served_link g short (Ask j z v n) up fs up2 down a o s asked known hint i p =
-      served_flight short (Ask j z v n) up fs up2 down a o (replied g short (Ask j z v n) (λ e. (cc)) s asked known hint i) p p
-  served_link g short (Edit j bytes) up fs up2 down a o s asked known hint i p = absurd p
-  served_link g short (Append bytes) up fs up2 down a o s asked known hint i p = absurd p
+  served_link g short (Ask j v n) up fs up2 down a o s asked known hint i p =
+      served_flight short (Ask j v n) up fs up2 down a o (replied g short (Ask j v n) (λ e. (cc)) s asked known hint i) p p
+  served_link g short Edit up fs up2 down a o s asked known hint i p = absurd p
+  served_link g short Append up fs up2 down a o s asked known hint i p = absurd p
   served_link g short Publish up fs up2 down a o s asked known hint i p = absurd p

@@ -18,7 +18,7 @@ use Rattle.client_core.specs.declared.state.Call.{Call}
 use Rattle.client_core.specs.declared.state.Call.TheVariants as call
 use Rattle.digit_pack.specs.Layout.{is_wide}
 use Rattle.client_core.specs.States.{is_wide_client, shape_known, known_version, scheme_held, delta_base}
-use Rattle.client_core.specs.Calls.{call_since, ClientCall, Hello, Sync, Ask, sync_begun, state_after_call, call_frame, call_words}
+use Rattle.client_core.specs.Calls.{ClientCall, Hello, Sync, Ask, frame_since, sync_frame, state_after_call, call_frame, call_words}
 use Rattle.client_core.specs.Replies.{
   plan_given,
   AfterReply,
@@ -104,16 +104,14 @@ first_frame true (Some since) s known = frame.ChangesAsk since
 first_frame false (Some since) s known = frame.DeltaAsk since
 first_frame wide None s known = frame.HintAsk (scheme_byte s) (known_version known) 0
 
-since_frame : (wide : Bool) (since : ℕ) (s : Scheme) (known : Option ServerInfo) (c : ClientState) →
-    call_frame c (call_since wide since) ≡ first_frame wide (Some since) s known
+since_frame : (wide : Bool) (since : ℕ) (s : Scheme) (known : Option ServerInfo) → frame_since wide since ≡ first_frame wide (Some since) s known
 unfolding first_frame
-since_frame true since s known c = refl
-since_frame false since s known c = refl
+since_frame true since s known = refl
+since_frame false since s known = refl
 
-begun_frame : (base : Option ℕ) (s : Scheme) (c : ClientState) →
-    call_frame (sync_begun base s c) (sync_begun base s c).call ≡ first_frame (is_wide_client c) base s c.known
+begun_frame : (base : Option ℕ) (s : Scheme) (c : ClientState) → sync_frame base s c ≡ first_frame (is_wide_client c) base s c.known
 unfolding first_frame
-begun_frame (Some since) s c = since_frame (is_wide_client c) since s c.known (sync_begun (Some since) s c)
+begun_frame (Some since) s c = since_frame (is_wide_client c) since s c.known
 begun_frame None s c = refl
 
 -- a call that a client of a run makes
@@ -124,7 +122,7 @@ IsReaders (Ask i) = Unit {0}
 IsReaders _ = ⊥
 
 pub call_frame_like : (c d : ClientState) (v w : ClientCall) → IsReaders v → outline c ≡ outline d → IsCallLike v w
-    → IsFrameLike (call_frame (state_after_call v c) (state_after_call v c).call) (call_frame (state_after_call w d) (state_after_call w d).call)
+    → IsFrameLike (call_frame v c) (call_frame w d)
 call_frame_like c d v w r a e = made v w r e
   where
     known : c.known ≡ d.known
@@ -143,11 +141,10 @@ call_frame_like c d v w r a e = made v w r e
     other_words j = call_words d.known (scheme_held d.hint) d.seed d.number j
 
     made : (v w : ClientCall) → IsReaders v → IsCallLike v w
-        → IsFrameLike (call_frame (state_after_call v c) (state_after_call v c).call) (call_frame (state_after_call w d) (state_after_call w d).call)
+        → IsFrameLike (call_frame v c) (call_frame w d)
     made (Hello key) w r e = rw e (ap (λ (o : Outline). frame.Hello o.profile key) (sym a))
     made (Sync s) w r e =
-        rw e (same_frame (call_frame (state_after_call (Sync s) c) (state_after_call (Sync s) c).call)
-        (call_frame (state_after_call (Sync s) d) (state_after_call (Sync s) d).call) (begun_frame (delta_base s d.hint) s d
+        rw e (same_frame (call_frame (Sync s) c) (call_frame (Sync s) d) (begun_frame (delta_base s d.hint) s d
         ∙ ap (λ (o : Outline). first_frame (is_wide o.profile) (delta_base s d.hint) s d.known) (sym a)
         ∙ ap (λ (b : Option ℕ). first_frame (is_wide_client c) b s d.known) (bases s)
         ∙ ap (λ (k : Option ServerInfo). first_frame (is_wide_client c) (delta_base s c.hint) s k) (sym known)
@@ -184,11 +181,11 @@ part_sends (call.Sync s v p) c scheme version part words = asked c.known
 part_sends k c scheme version part words = inl refl
 
 welcome_sends : (k : Call) (c : ClientState) (plan : Plan) (count version : ℕ) → Sends (takes_welcome k c plan count version)
-welcome_sends (call.Hello key) c plan count version = either (is_accepted_welcome c.profile plan count version) _ _ (inl refl) (inl refl)
+welcome_sends call.Hello c plan count version = either (is_accepted_welcome c.profile plan count version) _ _ (inl refl) (inl refl)
 welcome_sends k c plan count version = inl refl
 
 answer_sends : (k : Call) (c : ClientState) (scheme version : ℕ) (words : List ℕ) → Sends (takes_answer k c scheme version words)
-answer_sends (call.Ask i s v n) c scheme version words = asked c.known c.hint
+answer_sends (call.Ask i v n) c scheme version words = asked c.known c.hint
   where
     asked : (known : Option ServerInfo) (hint : Option Hint) → Sends (answered known hint c i v n scheme version words)
     asked None hint = inl refl
@@ -203,7 +200,7 @@ stale_asked (Some k) dropped c asked version count =
 
 stale_sends : (k : Call) (c : ClientState) (version count : ℕ) → Sends (takes_stale k c version count)
 stale_sends (call.Sync s v p) c version count = stale_asked c.known _ c v version count
-stale_sends (call.Ask i s v n) c version count = stale_asked c.known c c v version count
+stale_sends (call.Ask i v n) c version count = stale_asked c.known c c v version count
 stale_sends k c version count = inl refl
 
 moved_sends : (known : Option ServerInfo) (hint : Option Hint) (c : ClientState) (asked since now count : ℕ) (rows : RowList) →
@@ -238,8 +235,8 @@ no_delta_sends k c version count = inl refl
 
 done_sends : (k : Call) (c : ClientState) (version : ℕ) → Sends (takes_done k c version)
 done_sends call.Idle c version = inl refl
-done_sends (call.Edit i b) c version = inl refl
-done_sends (call.Append b) c version = inl refl
+done_sends call.Edit c version = inl refl
+done_sends call.Append c version = inl refl
 done_sends call.Publish c version = inl refl
 done_sends k c version = inl refl
 

@@ -5,6 +5,7 @@ use Rattle.std.specs.Prelude.{map, slice_get, slice_set, is_some}
 use Rattle.std.specs.List.{flat_map}
 use Rattle.std.proofs.lemmas.Bool.{cases_eq}
 use Rattle.frame_codec.specs.declared.frame.Frame.{Frame}
+use Rattle.pir_schemes.specs.declared.scheme.Scheme.{Scheme}
 use Rattle.version_store.specs.Histories.{History}
 use Rattle.server_core.specs.Serving.{Setting}
 use Rattle.client_core.specs.declared.state.ClientState.{ClientState}
@@ -14,6 +15,7 @@ use Rattle.client_core.specs.declared.state.CallFault.{CallFault}
 use Rattle.client_core.specs.declared.state.Event.{Event}
 use Rattle.client_core.specs.declared.state.Reaction.{Reaction}
 use Rattle.client_core.specs.declared.state.Reaction.TheVariants.{Asks, Reports, Fails}
+use Rattle.client_core.specs.States.{scheme_held}
 use Rattle.client_core.specs.Calls.{ClientCall, refusal}
 use Rattle.client_core.specs.Replies.{reaction_to_reply}
 use Rattle.client_core.specs.Feeding.{sends_of, takes_all, fault_of}
@@ -93,38 +95,39 @@ state_itself s = record { history = refl; links = λ k. both_itself (slice_get s
 called_equal : (k : ℕ) (v w : ClientCall) (f g : Frame) → IsFrameLike f g → HaveEqualShapes (Called k v None ∷ Sent k f ∷ []) (Called k w None ∷ Sent k g ∷ [])
 called_equal k v w f g e = record { sent = λ j. rw (same_shape f g e) refl; replies = λ j. refl; refusals = λ j. refl }
 
-reports_sent : (j k : ℕ) (q : Call) (f : Frame) (e : Event) → flat_map (sent_shape j) (reports k q f e ∷ []) ≡ []
-reports_sent j k (Ask i s v n) f e = refl
-reports_sent j k q f e = refl
+reports_sent : (j k : ℕ) (z : Scheme) (q : Call) (f : Frame) (e : Event) → flat_map (sent_shape j) (reports k z q f e ∷ []) ≡ []
+reports_sent j k z (Ask i v n) f e = refl
+reports_sent j k z q f e = refl
 
-reports_replied : (j k : ℕ) (q : Call) (f : Frame) (e : Event) → flat_map (reply_shape j) (reports k q f e ∷ []) ≡ []
-reports_replied j k (Ask i s v n) f e = refl
-reports_replied j k q f e = refl
+reports_replied : (j k : ℕ) (z : Scheme) (q : Call) (f : Frame) (e : Event) → flat_map (reply_shape j) (reports k z q f e ∷ []) ≡ []
+reports_replied j k z (Ask i v n) f e = refl
+reports_replied j k z q f e = refl
 
-reacts_sent : (j k : ℕ) (q : Call) (f : Frame) (r : Reaction) → flat_map (sent_shape j) (reacts k q f r) ≡ flat_map (sent_shape j) (map (λ (y : Frame). Sent k y) (sends_of r))
-reacts_sent j k q f (Asks s v p) = refl
-reacts_sent j k q f (Reports e) = reports_sent j k q f e
-reacts_sent j k q f (Fails fault) = refl
+reacts_sent : (j k : ℕ) (z : Scheme) (q : Call) (f : Frame) (r : Reaction) → flat_map (sent_shape j) (reacts k z q f r) ≡ flat_map (sent_shape j) (map (λ (y : Frame). Sent k y) (sends_of r))
+reacts_sent j k z q f (Asks s v p) = refl
+reacts_sent j k z q f (Reports e) = reports_sent j k z q f e
+reacts_sent j k z q f (Fails fault) = refl
 
-reacts_replied : (j k : ℕ) (q : Call) (f : Frame) (r : Reaction) → flat_map (reply_shape j) (reacts k q f r) ≡ []
-reacts_replied j k q f (Asks s v p) = refl
-reacts_replied j k q f (Reports e) = reports_replied j k q f e
-reacts_replied j k q f (Fails fault) = refl
+reacts_replied : (j k : ℕ) (z : Scheme) (q : Call) (f : Frame) (r : Reaction) → flat_map (reply_shape j) (reacts k z q f r) ≡ []
+reacts_replied j k z q f (Asks s v p) = refl
+reacts_replied j k z q f (Reports e) = reports_replied j k z q f e
+reacts_replied j k z q f (Fails fault) = refl
 
-reports_no_refusal : (j k : ℕ) (q : Call) (f : Frame) (e : Event) → flat_map (call_refusal j) (reports k q f e ∷ []) ≡ []
-reports_no_refusal j k (Ask i s v n) f e = refl
-reports_no_refusal j k q f e = refl
+reports_no_refusal : (j k : ℕ) (z : Scheme) (q : Call) (f : Frame) (e : Event) → flat_map (call_refusal j) (reports k z q f e ∷ []) ≡ []
+reports_no_refusal j k z (Ask i v n) f e = refl
+reports_no_refusal j k z q f e = refl
 
-reacts_no_refusal : (j k : ℕ) (q : Call) (f : Frame) (r : Reaction) → flat_map (call_refusal j) (reacts k q f r) ≡ []
-reacts_no_refusal j k q f (Asks s v p) = refl
-reacts_no_refusal j k q f (Reports e) = reports_no_refusal j k q f e
-reacts_no_refusal j k q f (Fails fault) = refl
+reacts_no_refusal : (j k : ℕ) (z : Scheme) (q : Call) (f : Frame) (r : Reaction) → flat_map (call_refusal j) (reacts k z q f r) ≡ []
+reacts_no_refusal j k z q f (Asks s v p) = refl
+reacts_no_refusal j k z q f (Reports e) = reports_no_refusal j k z q f e
+reacts_no_refusal j k z q f (Fails fault) = refl
 
-reacts_equal : (k : ℕ) (q q2 : Call) (f g : Frame) (r r2 : Reaction) → sends_of r ≡ sends_of r2 → HaveEqualShapes (reacts k q f r) (reacts k q2 g r2)
-reacts_equal k q q2 f g r r2 e = record {
-  sent = λ j. reacts_sent j k q f r ∙ ap (λ (fs : List Frame). flat_map (sent_shape j) (map (λ (y : Frame). Sent k y) fs)) e ∙ sym (reacts_sent j k q2 g r2);
-  replies = λ j. reacts_replied j k q f r ∙ sym (reacts_replied j k q2 g r2);
-  refusals = λ j. reacts_no_refusal j k q f r ∙ sym (reacts_no_refusal j k q2 g r2);
+reacts_equal : (k : ℕ) (y z : Scheme) (q q2 : Call) (f g : Frame) (r r2 : Reaction) → sends_of r ≡ sends_of r2 →
+    HaveEqualShapes (reacts k y q f r) (reacts k z q2 g r2)
+reacts_equal k y z q q2 f g r r2 e = record {
+  sent = λ j. reacts_sent j k y q f r ∙ ap (λ (fs : List Frame). flat_map (sent_shape j) (map (λ (u : Frame). Sent k u) fs)) e ∙ sym (reacts_sent j k z q2 g r2);
+  replies = λ j. reacts_replied j k y q f r ∙ sym (reacts_replied j k z q2 g r2);
+  refusals = λ j. reacts_no_refusal j k y q f r ∙ sym (reacts_no_refusal j k z q2 g r2);
 }
 
 abbrev none_or : Bool → List Entry
@@ -153,9 +156,9 @@ taken_like k c d (f ∷ []) (g ∷ []) a e few = record {
   outlined = replied_outline c d f g a e.0;
   sends = replied_sends c d f g a e.0;
   logs =
-      equal_append (reacts k c.call f (reaction_to_reply c f).reaction) (reacts k d.call g (reaction_to_reply d g).reaction)
+      equal_append (reacts k (scheme_held c.hint) c.call f (reaction_to_reply c f).reaction) (reacts k (scheme_held d.hint) d.call g (reaction_to_reply d g).reaction)
       (none_or (is_some (fault_of (reaction_to_reply c f).reaction))) (none_or (is_some (fault_of (reaction_to_reply d g).reaction)))
-      (reacts_equal k c.call d.call f g _ _ (replied_sends c d f g a e.0))
+      (reacts_equal k (scheme_held c.hint) (scheme_held d.hint) c.call d.call f g _ _ (replied_sends c d f g a e.0))
       (nothing_equal _ _);
 }
 taken_like k c d (f ∷ f2 ∷ fs) gs a e few = absurd (not_few f f2 fs few)

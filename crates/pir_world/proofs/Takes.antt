@@ -42,7 +42,7 @@ use Rattle.client_core.specs.declared.state.Call.{Call}
 use Rattle.client_core.specs.declared.state.Call.TheVariants.{Idle, Hello, Sync, Delta, Changes, Ask, Edit, Append, Publish}
 use Rattle.client_core.specs.declared.state.ClientFault.TheVariants.{BadReply}
 use Rattle.client_core.specs.declared.state.Reaction.TheVariants.{Asks}
-use Rattle.client_core.specs.States.{is_layout, shape_known}
+use Rattle.client_core.specs.States.{is_layout, shape_known, scheme_held}
 use Rattle.client_core.specs.Replies.{AfterReply, reaction_to_reply, takes_welcome, takes_part, takes_answer, takes_stale, takes_no_delta, takes_refused, takes_asked_part, more_parts, is_accepted_welcome, is_part, is_answer, is_current, with_current, are_ascending, are_entries, have_slots, is_delta, is_changes, hint_with_entries, event_of, event_read, answered, ended, faulty}
 use Rattle.client_core.specs.declared.state.Event.TheVariants.{Synced}
 use Rattle.client_core.specs.Laws.{rows_of}
@@ -87,11 +87,11 @@ pub record IsTaken (x : Setting) (seeds : List (List ℕ)) (k : ℕ) (h : Histor
   pub client : ClientInv x h (seed_of seeds k) st t.state
   pub no_fault : fault_of t.reaction ≡ None
   pub phase : Phase x h st (seed_of seeds k) t.state t.state.call (sends_of t.reaction) []
-  pub right : AllByRecursion (IsRight x seeds h) (reacts k call reply t.reaction)
+  pub right : AllByRecursion (IsRight x seeds h) (reacts k (scheme_held c.hint) call reply t.reaction)
   pub number : t.state.number ≡ c.number
-  pub told : name_of t.state.hint ≡ fold (hint_after k) (name_of c.hint) (reacts k call reply t.reaction)
+  pub told : name_of t.state.hint ≡ fold (hint_after k) (name_of c.hint) (reacts k (scheme_held c.hint) call reply t.reaction)
   pub asks : (scheme : Scheme) (version part : ℕ) → t.reaction ≡ Asks scheme version part → IsPartBefore call reply scheme version part
-  pub next : (f : Frame) (first : List Entry) → sends_of t.reaction ≡ f ∷ [] → IsFrom x h (seed_of seeds k) k t.state.call f first
+  pub next : (f : Frame) (first : List Entry) → sends_of t.reaction ≡ f ∷ [] → IsFrom x h (seed_of seeds k) k (scheme_held t.state.hint) t.state.call f first
 
 -- ---- sizes
 
@@ -158,10 +158,10 @@ module _ (law : RetrievalGivesTheRecord) (x : Setting) (seeds : List (List ℕ))
   plan_ok : (v : ℕ) (records : List (List ℕ)) → HasVersion h v records → IsPlan x.plan (length records)
   plan_ok v records p = (g.versions v records p).plan
 
-  welcomed : (key : List ℕ) (v : ℕ) (records : List (List ℕ)) → HasVersion h v records → st ≡ Reader →
-      IsTaken x seeds k h st c (Hello key) (welcome_frame x v records)
-      (takes_welcome (Hello key) c x.plan (length records) v)
-  welcomed key v records p reader = rw (welcome_good c.profile x.plan (length records) v i.profile_is (plan_ok v records p) (version_positive x h v records g p)) (record {
+  welcomed : (v : ℕ) (records : List (List ℕ)) → HasVersion h v records → st ≡ Reader →
+      IsTaken x seeds k h st c Hello (welcome_frame x v records)
+      (takes_welcome Hello c x.plan (length records) v)
+  welcomed v records p reader = rw (welcome_good c.profile x.plan (length records) v i.profile_is (plan_ok v records p) (version_positive x h v records g p)) (record {
     client = record {
       seed_is = i.seed_is;
       profile_is = i.profile_is;
@@ -215,9 +215,9 @@ module _ (law : RetrievalGivesTheRecord) (x : Setting) (seeds : List (List ℕ))
     next = λ f first e2. tt;
   }
 
-  refused_ask : (j : ℕ) (s : Scheme) (v n : ℕ) →
-      IsTaken x seeds k h st c (Ask j s v n) (refused refusal.Memory) (takes_refused (Ask j s v n) c (code_of refusal.Memory))
-  refused_ask j s v n = record {
+  refused_ask : (j v n : ℕ) →
+      IsTaken x seeds k h st c (Ask j v n) (refused refusal.Memory) (takes_refused (Ask j v n) c (code_of refusal.Memory))
+  refused_ask j v n = record {
     client = record { seed_is = i.seed_is; profile_is = i.profile_is; alive = i.alive; known = i.known; hint = i.hint; call = tt };
     no_fault = refl;
     phase = (refl, refl);
@@ -270,9 +270,9 @@ module _ (law : RetrievalGivesTheRecord) (x : Setting) (seeds : List (List ℕ))
       next = λ f first e2. tt;
     })
 
-    stale_ask : (j : ℕ) (s : Scheme) (v n now : ℕ) (records : List (List ℕ)) → HasVersion h now records → v < now
-        → IsTaken x seeds k h st c (Ask j s v n) (frame.Stale now (length records)) (takes_stale (Ask j s v n) c now (length records))
-    stale_ask j s v n now records p lt = rw (at, stale_good v now records p lt) (record {
+    stale_ask : (j v n now : ℕ) (records : List (List ℕ)) → HasVersion h now records → v < now
+        → IsTaken x seeds k h st c (Ask j v n) (frame.Stale now (length records)) (takes_stale (Ask j v n) c now (length records))
+    stale_ask j v n now records p lt = rw (at, stale_good v now records p lt) (record {
       client = record { seed_is = i.seed_is; profile_is = i.profile_is; alive = i.alive; known = (known.0, is_reported now records p); hint = i.hint; call = tt };
       no_fault = refl;
       phase = (refl, refl);
@@ -583,8 +583,14 @@ module _ (law : RetrievalGivesTheRecord) (x : Setting) (seeds : List (List ℕ))
           (more (c.parts ++ part_words x s r.records p) (ap (λ (w : List ℕ). w ++ part_words x s r.records p) r.parts_are ∙ parts_more x s r.records p)
           (cases_Bool (length (c.parts ++ part_words x s r.records p) == total)))
 
-    module _ (j : ℕ) (s : Scheme) (v n : ℕ) (records : List (List ℕ)) (p : HasVersion h v records) (lt : j < y.count) (e : y.version ≡ v) (hint : Hint)
-        (held : c.hint ≡ Some hint) (se : hint.scheme ≡ s) (ve : hint.version ≡ v) where
+    module _ (j v n : ℕ) (records : List (List ℕ)) (p : HasVersion h v records) (lt : j < y.count) (e : y.version ≡ v) (hint : Hint)
+        (held : c.hint ≡ Some hint) (ve : hint.version ≡ v) where
+      abbrev s : Scheme
+      s = scheme_held c.hint
+
+      se : hint.scheme ≡ s
+      se = sym (ap scheme_held held)
+
       abbrev asked : Retrieval
       asked = record { index = j; scheme = s; version = v; number = n }
 
@@ -629,7 +635,7 @@ module _ (law : RetrievalGivesTheRecord) (x : Setting) (seeds : List (List ℕ))
                 (inr q));
           }
 
-      answer_step : takes_answer (Ask j s v n) c (scheme_byte s) v answer
+      answer_step : takes_answer (Ask j v n) c (scheme_byte s) v answer
           ≡ ended c (event_of y.plan j v (reading hint.scheme (shape_known y) hint.matrix c.seed n j answer))
       answer_step =
           ap (λ (o : Option ServerInfo). answered o c.hint c j v n (scheme_byte s) v answer) at
@@ -637,8 +643,8 @@ module _ (law : RetrievalGivesTheRecord) (x : Setting) (seeds : List (List ℕ))
           ∙ ap (λ (b : Bool). cond b (ended c (event_of y.plan j v (reading hint.scheme (shape_known y) hint.matrix c.seed n j answer)))
           (faulty c BadReply)) words_good
 
-      answer_came : IsTaken x seeds k h st c (Ask j s v n) (frame.Answer (scheme_byte s) v answer) (takes_answer (Ask j s v n) c (scheme_byte s) v answer)
-      answer_came = subst (λ (t : AfterReply). IsTaken x seeds k h st c (Ask j s v n) (frame.Answer (scheme_byte s) v answer) t) (sym answer_step) (record {
+      answer_came : IsTaken x seeds k h st c (Ask j v n) (frame.Answer (scheme_byte s) v answer) (takes_answer (Ask j v n) c (scheme_byte s) v answer)
+      answer_came = subst (λ (t : AfterReply). IsTaken x seeds k h st c (Ask j v n) (frame.Answer (scheme_byte s) v answer) t) (sym answer_step) (record {
         client = record { seed_is = i.seed_is; profile_is = i.profile_is; alive = i.alive; known = i.known; hint = i.hint; call = tt };
         no_fault = refl;
         phase = (refl, refl);
@@ -652,13 +658,13 @@ module _ (law : RetrievalGivesTheRecord) (x : Setting) (seeds : List (List ℕ))
   by_call : (f : Call → AfterReply) (call : Call) (r : Frame) → c.call ≡ call → IsTaken x seeds k h st c call r (f call) → IsTaken x seeds k h st c call r (f c.call)
   by_call f call r e t = subst (λ (a : Call). IsTaken x seeds k h st c call r (f a)) (sym e) t
 
-  reply_taken : (call : Call) (r : Frame) → c.call ≡ call → CallIs x h c call → IsReply x h st (seed_of seeds k) call r →
+  reply_taken : (call : Call) (r : Frame) → c.call ≡ call → CallIs x h c call → IsReply x h st (seed_of seeds k) (scheme_held c.hint) call r →
       IsTaken x seeds k h st c call r (reaction_to_reply c r)
   reply_taken Idle r e a p = absurd p
-  reply_taken (Hello key) r e a p =
+  reply_taken Hello r e a p =
       rw p.1.3 (by_call (λ (q : Call). takes_welcome q c x.plan
-      (length p.1.1) p.1.0) (Hello key) (welcome_frame x p.1.0 p.1.1) e
-      (welcomed key p.1.0 p.1.1 p.1.2 p.0))
+      (length p.1.1) p.1.0) Hello (welcome_frame x p.1.0 p.1.1) e
+      (welcomed p.1.0 p.1.1 p.1.2 p.0))
   reply_taken (Sync s v m) r e a (inl p) =
       rw p (by_call (λ (q : Call). takes_refused q c (code_of refusal.Memory)) (Sync s v m) (refused refusal.Memory) e
       (refused_sync s v m (code_of refusal.Memory)))
@@ -691,20 +697,21 @@ module _ (law : RetrievalGivesTheRecord) (x : Setting) (seeds : List (List ℕ))
   reply_taken (Changes since) r e a (inr (inr d)) =
       let known = known_some x h st c.known a.0.k i.known a.0.known_is in
       changes_came a.0.k a.0.known_is known since r d e a.0
-  reply_taken (Ask j s v n) r e a (inl p) =
-      rw p (by_call (λ (q : Call). takes_refused q c (code_of refusal.Memory)) (Ask j s v n) (refused refusal.Memory) e (refused_ask j s v n))
-  reply_taken (Ask j s v n) r e a (inr (inl p)) =
+  reply_taken (Ask j v n) r e a (inl p) =
+      rw p (by_call (λ (q : Call). takes_refused q c (code_of refusal.Memory)) (Ask j v n) (refused refusal.Memory) e (refused_ask j v n))
+  reply_taken (Ask j v n) r e a (inr (inl p)) =
       let known = known_some x h st c.known a.k i.known a.known_is in
-      rw p.4 (by_call (λ (q : Call). takes_stale q c p.0 (length p.1)) (Ask j s v n) (frame.Stale p.0 (length p.1)) e
-      (stale_ask a.k a.known_is known j s v n p.0 p.1 p.2 p.3))
-  reply_taken (Ask j s v n) r e a (inr (inr p)) =
+      rw p.4 (by_call (λ (q : Call). takes_stale q c p.0 (length p.1)) (Ask j v n) (frame.Stale p.0 (length p.1)) e
+      (stale_ask a.k a.known_is known j v n p.0 p.1 p.2 p.3))
+  reply_taken (Ask j v n) r e a (inr (inr p)) =
       let known = known_some x h st c.known a.k i.known a.known_is in
+      let s : Scheme = scheme_held c.hint in
       let w : List ℕ = given_words x.plan p.0 (seed_of seeds k) (record { index = j; scheme = s; version = v; number = n }) in
-      rw p.2 (by_call (λ (q : Call). takes_answer q c (scheme_byte s) v w) (Ask j s v n) (frame.Answer (scheme_byte s) v w) e
-      (answer_came a.k a.known_is known j s v n p.0 p.1 a.inside a.asked a.hint a.hint_is a.scheme_is a.version_is))
-  reply_taken (Edit j bytes) r e a p = absurd p
-  reply_taken (Append bytes) r e a p = absurd p
+      rw p.2 (by_call (λ (q : Call). takes_answer q c (scheme_byte s) v w) (Ask j v n) (frame.Answer (scheme_byte s) v w) e
+      (answer_came a.k a.known_is known j v n p.0 p.1 a.inside a.asked a.hint a.hint_is a.version_is))
+  reply_taken Edit r e a p = absurd p
+  reply_taken Append r e a p = absurd p
   reply_taken Publish r e a p = absurd p
 
-  pub taken : (r : Frame) → IsReply x h st (seed_of seeds k) c.call r → IsTaken x seeds k h st c c.call r (reaction_to_reply c r)
+  pub taken : (r : Frame) → IsReply x h st (seed_of seeds k) (scheme_held c.hint) c.call r → IsTaken x seeds k h st c c.call r (reaction_to_reply c r)
   taken r p = reply_taken c.call r refl i.call p

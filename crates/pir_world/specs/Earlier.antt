@@ -38,7 +38,7 @@ hint_after k hint _ = hint
 abbrev pub hint_named : ℕ → List Entry → Option (Scheme × ℕ)
 hint_named k log = fold (hint_after k) None log
 
--- an entry of another, or a call of client k that was refused
+-- an entry that is none of client k's, or a call of it that was refused
 abbrev pub IsAside : ℕ → Entry → Type 0
 IsAside k (Called j want None) = j ≢ k
 IsAside k (Called j want (Some fault)) = Unit {0}
@@ -106,7 +106,7 @@ IsAskForChanges k since log =
     (first : List Entry) × (log ≡ first ++ Called k (Sync Simple) None ∷ []) × (hint_named k first ≡ Some (Simple, since))
 
 -- What came before an entry: each frame sent is that of a call that was accepted last, or asks for
--- the next part of a hint; each frame served was sent; each retrieval that ended was asked for and
+-- a part of a hint; each frame served was sent; each retrieval that ended was asked for and
 -- served, and each other event came of a reply to the last frame.
 abbrev pub HasEarlier : Setting → List (List ℕ) → History → List Entry → Entry → Type 0
 HasEarlier x seeds h before (Sent k (frame.Query scheme version words)) =

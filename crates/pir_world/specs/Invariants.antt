@@ -25,8 +25,8 @@ use Rattle.client_core.specs.declared.state.ServerInfo.{ServerInfo}
 use Rattle.client_core.specs.declared.state.Hint.{Hint}
 use Rattle.client_core.specs.declared.state.Call.{Call}
 use Rattle.client_core.specs.declared.state.Call.TheVariants.{Idle, Hello, Sync, Delta, Changes, Ask, Edit, Append, Publish}
-use Rattle.client_core.specs.States.{is_wide_client}
-use Rattle.client_core.specs.Calls.{call_frame}
+use Rattle.client_core.specs.States.{is_wide_client, scheme_held}
+use Rattle.client_core.specs.Calls.{call_words}
 use Rattle.client_core.specs.Replies.{are_ascending}
 use Rattle.pir_world.specs.Runs.{State, Link, Entry, reader_key}
 use Rattle.pir_world.specs.Earlier.{IsSentLast, IsServedLast, asks_of, hint_named, IsAsked, HasEarlier}
@@ -67,15 +67,14 @@ pub record SyncIs (x : Setting) (h : History) (s : Scheme) (v p : ℕ) (known : 
   pub parts_are : parts ≡ take (65536 * p) (hint_words x s records)
   pub further : 65536 * p < length (hint_words x s records)
 
--- the hint held is of the scheme and the version asked, which is the last known
-pub record AskIs (c : ClientState) (i : ℕ) (s : Scheme) (v : ℕ) : Type 0 where
+-- the hint held is of the version asked, which is the last known
+pub record AskIs (c : ClientState) (i v : ℕ) : Type 0 where
   pub k : ServerInfo
   pub known_is : c.known ≡ Some k
   pub asked : k.version ≡ v
   pub inside : i < k.count
   pub hint : Hint
   pub hint_is : c.hint ≡ Some hint
-  pub scheme_is : hint.scheme ≡ s
   pub version_is : hint.version ≡ v
 
 -- the hint held is SimplePIR's, of the version asked from
@@ -90,13 +89,13 @@ pub record DeltaIs (c : ClientState) (since : ℕ) : Type 0 where
 -- what holds of an outstanding call
 abbrev pub CallIs : Setting → History → ClientState → Call → Type 0
 CallIs x h c Idle = Unit {0}
-CallIs x h c (Hello key) = key ≡ reader_key
+CallIs x h c Hello = Unit {0}
 CallIs x h c (Sync scheme v p) = SyncIs x h scheme v p c.known c.parts
 CallIs x h c (Delta since) = DeltaIs c since
 CallIs x h c (Changes since) = DeltaIs c since × (is_wide_client c ≡ true)
-CallIs x h c (Ask i scheme v number) = AskIs c i scheme v
-CallIs x h c (Edit i bytes) = ⊥
-CallIs x h c (Append bytes) = ⊥
+CallIs x h c (Ask i v number) = AskIs c i v
+CallIs x h c Edit = ⊥
+CallIs x h c Append = ⊥
 CallIs x h c Publish = ⊥
 
 -- refused because the server was out of memory, stale with a later version that there is, or the
@@ -140,41 +139,50 @@ pub record IsChangesTo (x : Setting) (h : History) (since : ℕ) (r : Frame) : T
   pub reply_is : r ≡ frame.Changes since now (length records)
       (entries_bytes (changes_between (slots_with_blanks x.plan (length records) before) (slots x.plan records)))
 
--- a reply to the outstanding call
-abbrev pub IsReply : Setting → History → Standing → List ℕ → Call → Frame → Type 0
-IsReply x h st seed (Hello key) r =
+-- a reply to the outstanding call, of a client that holds a hint of this scheme
+abbrev pub IsReply : Setting → History → Standing → List ℕ → Scheme → Call → Frame → Type 0
+IsReply x h st seed s Hello r =
     (st ≡ Reader) × ((v : ℕ) × (records : List (List ℕ)) × HasVersion h v records × (r ≡ welcome_frame x v records))
-IsReply x h st seed (Sync s v p) r =
-    IsReplyOf x h v r (λ records. frame.HintPart (scheme_byte s) v p (part_words x s records p))
-IsReply x h st seed (Delta since) r =
+IsReply x h st seed s (Sync scheme v p) r =
+    IsReplyOf x h v r (λ records. frame.HintPart (scheme_byte scheme) v p (part_words x scheme records p))
+IsReply x h st seed s (Delta since) r =
     (r ≡ refused refusal.Memory)
     ⊎ ((now : ℕ) × (records : List (List ℕ)) × HasVersion h now records × (r ≡ frame.NoDelta now (length records)))
     ⊎ IsDeltaTo x h since r
-IsReply x h st seed (Changes since) r =
+IsReply x h st seed s (Changes since) r =
     (r ≡ refused refusal.Memory)
     ⊎ ((now : ℕ) × (records : List (List ℕ)) × HasVersion h now records × (r ≡ frame.NoDelta now (length records)))
     ⊎ IsChangesTo x h since r
-IsReply x h st seed (Ask i s v n) r =
+IsReply x h st seed s (Ask i v n) r =
     IsReplyOf x h v r (λ records. frame.Answer (scheme_byte s) v
     (given_words x.plan records seed (record { index = i; scheme = s; version = v; number = n })))
-IsReply x h st seed _ r = ⊥
+IsReply x h st seed s _ r = ⊥
+
+-- the frame of an outstanding call. A world's clients are readers, and make no other calls
+abbrev pub outstanding_frame : ClientState → Call → Frame
+outstanding_frame c Hello = frame.Hello c.profile reader_key
+outstanding_frame c (Sync scheme v p) = frame.HintAsk (scheme_byte scheme) v p
+outstanding_frame c (Delta since) = frame.DeltaAsk since
+outstanding_frame c (Changes since) = frame.ChangesAsk since
+outstanding_frame c (Ask i v n) = frame.Query (scheme_byte (scheme_held c.hint)) v (call_words c.known (scheme_held c.hint) c.seed n i)
+outstanding_frame c _ = frame.Bye
 
 -- the call's frame is on its way, or a reply to it is
 abbrev pub InFlight : Setting → History → Standing → List ℕ → ClientState → Call → List Frame → List Frame → Type 0
 InFlight x h st seed c call up down =
-    ((up ≡ call_frame c call ∷ []) × (down ≡ []))
-    ⊎ ((up ≡ []) × ((r : Frame) × (down ≡ r ∷ []) × IsReply x h st seed call r))
+    ((up ≡ outstanding_frame c call ∷ []) × (down ≡ []))
+    ⊎ ((up ≡ []) × ((r : Frame) × (down ≡ r ∷ []) × IsReply x h st seed (scheme_held c.hint) call r))
 
 -- at most one frame is on its way, and none without a call
 abbrev pub Phase : Setting → History → Standing → List ℕ → ClientState → Call → List Frame → List Frame → Type 0
 Phase x h st seed c Idle up down = (up ≡ []) × (down ≡ [])
-Phase x h st seed c (Hello key) up down = InFlight x h st seed c (Hello key) up down
+Phase x h st seed c Hello up down = InFlight x h st seed c Hello up down
 Phase x h st seed c (Sync scheme v p) up down = InFlight x h st seed c (Sync scheme v p) up down
 Phase x h st seed c (Delta since) up down = InFlight x h st seed c (Delta since) up down
 Phase x h st seed c (Changes since) up down = InFlight x h st seed c (Changes since) up down
-Phase x h st seed c (Ask i s v n) up down = InFlight x h st seed c (Ask i s v n) up down
-Phase x h st seed c (Edit i bytes) up down = ⊥
-Phase x h st seed c (Append bytes) up down = ⊥
+Phase x h st seed c (Ask i v n) up down = InFlight x h st seed c (Ask i v n) up down
+Phase x h st seed c Edit up down = ⊥
+Phase x h st seed c Append up down = ⊥
 Phase x h st seed c Publish up down = ⊥
 
 -- a client, its session and what is between them
@@ -190,13 +198,13 @@ pub record LinkInvariant (x : Setting) (h : History) (seed : List ℕ) (l : Link
 
 -- a sync's frame asks for its next part, or for what changed; an ask's is the query of its
 -- retrieval, which was asked for last
-abbrev pub IsFrom : Setting → History → List ℕ → ℕ → Call → Frame → List Entry → Type 0
-IsFrom x h seed k (Ask i s v n) f first =
+abbrev pub IsFrom : Setting → History → List ℕ → ℕ → Scheme → Call → Frame → List Entry → Type 0
+IsFrom x h seed k s (Ask i v n) f first =
     IsAsked x h seed k (record { index = i; scheme = s; version = v; number = n }) f first
-IsFrom x h seed k (Sync s v p) f first = f ≡ frame.HintAsk (scheme_byte s) v p
-IsFrom x h seed k (Delta since) f first = f ≡ frame.DeltaAsk since
-IsFrom x h seed k (Changes since) f first = f ≡ frame.ChangesAsk since
-IsFrom x h seed k _ f first = Unit {0}
+IsFrom x h seed k s (Sync scheme v p) f first = f ≡ frame.HintAsk (scheme_byte scheme) v p
+IsFrom x h seed k s (Delta since) f first = f ≡ frame.DeltaAsk since
+IsFrom x h seed k s (Changes since) f first = f ≡ frame.ChangesAsk since
+IsFrom x h seed k s _ f first = Unit {0}
 
 -- what the log says of a client: its next number, the hint that it holds, the frame on its way, or
 -- the reply
@@ -204,9 +212,9 @@ pub record LogInvariant (x : Setting) (h : History) (seed : List ℕ) (k : ℕ) 
   pub number : l.client.number ≡ asks_of k log
   pub hint : name_of l.client.hint ≡ hint_named k log
   pub sent : (f : Frame) → l.up.frames ≡ f ∷ [] →
-      (first : List Entry) × IsSentLast k f first log × IsFrom x h seed k l.client.call f first
+      (first : List Entry) × IsSentLast k f first log × IsFrom x h seed k (scheme_held l.client.hint) l.client.call f first
   pub served : (r : Frame) → l.down.frames ≡ r ∷ [] →
-      (f : Frame) × (first : List Entry) × IsServedLast k f r first log × IsFrom x h seed k l.client.call f first
+      (f : Frame) × (first : List Entry) × IsServedLast k f r first log × IsFrom x h seed k (scheme_held l.client.hint) l.client.call f first
 
 -- P of each entry and those before it, where these came before all
 abbrev pub EachAfter : (List Entry → Entry → Type 0) → List Entry → List Entry → Type 0

@@ -26,7 +26,7 @@ use Rattle.client_core.specs.declared.state.CallFault.{CallFault}
 use Rattle.client_core.specs.declared.state.Event.{Event}
 use Rattle.client_core.specs.declared.state.Reaction.{Reaction}
 use Rattle.client_core.specs.declared.state.Reaction.TheVariants.{Asks, Reports, Fails}
-use Rattle.client_core.specs.States.{fresh_in}
+use Rattle.client_core.specs.States.{fresh_in, scheme_held}
 use Rattle.client_core.specs.Calls.{ClientCall, refusal, state_after_call, call_frame}
 use Rattle.client_core.specs.Calls.{Hello as hello_call, Sync as sync_call, Ask as ask_call}
 use Rattle.client_core.specs.Replies.{reaction_to_reply}
@@ -126,13 +126,8 @@ turn_more x short k t f =
     if is_closed t.standing then t
     else (
     let o = served_or short x t.history t.standing f in
-    record {
-      history = o.history;
-      standing = o.standing;
-      replies = t.replies ++ option_to_list o.reply;
-      log =
-          t.log ++ Served k f (current_version t.history) o.reply ∷ [];
-    })
+    let log = t.log ++ Served k f (current_version t.history) o.reply ∷ [] in
+    record { history = o.history; standing = o.standing; replies = t.replies ++ option_to_list o.reply; log = log })
 
 -- frames one after another
 abbrev pub turns : Setting → Bool → ℕ → Turn → List Frame → Turn
@@ -153,22 +148,23 @@ pub record Link : Type 0 where
   pub up : Wire
   pub down : Wire
 
--- an event ends the outstanding call
-abbrev pub reports : ℕ → Call → Frame → Event → Entry
-reports k (call.Ask i s v n) reply e = Ended k (record { index = i; scheme = s; version = v; number = n }) reply e
-reports k _ reply e = Plain (Reported k e)
+-- an event ends the outstanding call: an ask's is the end of its retrieval, in the scheme of the
+-- hint held
+abbrev pub reports : ℕ → Scheme → Call → Frame → Event → Entry
+reports k s (call.Ask i v n) reply e = Ended k (record { index = i; scheme = s; version = v; number = n }) reply e
+reports k s _ reply e = Plain (Reported k e)
 
 -- what is written down of a reaction to a reply: an event, a fault, or the frame that asks for the
 -- next part of a hint
-abbrev pub reacts : ℕ → Call → Frame → Reaction → List Entry
-reacts k c reply (Asks scheme version part) = Sent k (frame.HintAsk (scheme_byte scheme) version part) ∷ []
-reacts k c reply (Reports e) = reports k c reply e ∷ []
-reacts k c reply (Fails fault) = Plain (Failed k fault) ∷ []
+abbrev pub reacts : ℕ → Scheme → Call → Frame → Reaction → List Entry
+reacts k s c reply (Asks scheme version part) = Sent k (frame.HintAsk (scheme_byte scheme) version part) ∷ []
+reacts k s c reply (Reports e) = reports k s c reply e ∷ []
+reacts k s c reply (Fails fault) = Plain (Failed k fault) ∷ []
 
 -- what client k reports and sends at replies, one after another, up to a fault
 abbrev pub reported_by : ℕ → ClientState → List Frame → List Entry
 reported_by k c [] = []
-reported_by k c (f ∷ fs) = reacts k c.call f (reaction_to_reply c f).reaction ++ cond (is_some (fault_of (reaction_to_reply c f).reaction)) []
+reported_by k c (f ∷ fs) = reacts k (scheme_held c.hint) c.call f (reaction_to_reply c f).reaction ++ cond (is_some (fault_of (reaction_to_reply c f).reaction)) []
     (reported_by k (reaction_to_reply c f).state fs)
 
 -- ---- runs
@@ -192,9 +188,8 @@ with_history s h o = record { history = h; links = s.links; log = s.log ++ Plain
 abbrev pub call_at : State → ℕ → ClientCall → Link → Option CallFault → State
 call_at s k w l (Some fault) = with_link s s.history k l (Called k w (Some fault) ∷ [])
 call_at s k w l None =
-    let c = state_after_call w l.client in
-    let f = call_frame c c.call in
-    with_link s s.history k (record l { client = c; up = sent l.up (f ∷ []) }) (Called k w None ∷ Sent k f ∷ [])
+    let f = call_frame w l.client in
+    with_link s s.history k (record l { client = state_after_call w l.client; up = sent l.up (f ∷ []) }) (Called k w None ∷ Sent k f ∷ [])
 
 -- a call at client k; nothing if there is no such client
 abbrev pub called_at : State → ClientCall → ℕ → Option Link → State
@@ -263,7 +258,7 @@ FitsStep (Edit i bytes) = All (λ b. b < 2 ^ 8) bytes
 FitsStep (Append bytes) = All (λ b. b < 2 ^ 8) bytes
 FitsStep _ = Unit {0}
 
--- one step: the server has memory for its reply, or is out of it
+-- one step: the server has memory for its replies, or is out of it
 abbrev pub Steps : Setting → State → Step → State → Type 0
 Steps x s step t = FitsStep step × ((t ≡ state_after x false s step) ⊎ (t ≡ state_after x true s step))
 

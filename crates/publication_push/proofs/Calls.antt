@@ -1,16 +1,12 @@
 -- What a client sends for an order, and what it takes as done.
-use Rattle.std.proofs.Common.{◌∙◌, ap}
-use Rattle.client_core.specs.declared.state.ClientState.{ClientState}
-use Rattle.client_core.specs.Calls.{call_frame}
-use Rattle.frame_codec.specs.Frames.{encoding}
 use Rattle.frame_codec.specs.declared.frame.Frame.TheVariants as frame
 use Rattle.publication_push.specs.Orders.{Edits, Appends, Publishes}
 use Rattle.publication_push.specs.Laws.{CallsSendTheirFrames, DonesAreReplies}
 
 pub calls_send_their_frames : CallsSendTheirFrames
-calls_send_their_frames old new (Edits place bytes) sent is = is.written ∙ ap (λ (c : ClientState). encoding (call_frame c c.call)) is.state
-calls_send_their_frames old new (Appends bytes) sent is = is.written ∙ ap (λ (c : ClientState). encoding (call_frame c c.call)) is.state
-calls_send_their_frames old new (Publishes version) sent is = is.written ∙ ap (λ (c : ClientState). encoding (call_frame c c.call)) is.state
+calls_send_their_frames old new (Edits place bytes) sent is = is.written
+calls_send_their_frames old new (Appends bytes) sent is = is.written
+calls_send_their_frames old new (Publishes version) sent is = is.written
 
 pub dones_are_replies : DonesAreReplies
 dones_are_replies c (Edits place bytes) (frame.Done v) version e = cc
