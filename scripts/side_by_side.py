@@ -1,7 +1,7 @@
 """The programs of both builds, the same work in C, and tables of them side by side: what scripts/bench, scripts/time_open and
 scripts/time_get have in common, and scripts/load in part.
 
-One build is for the kit's default processor, the other for x86-64-v3 (AVX2), where this machine has it. A folder of programs has
+One build is for the kit's default processor, the other for x86-64-v3 (AVX2), if this machine has it. A folder of programs has
 a folder for each build: `default/pir_server`, `default/pir_client`, `default/kernel_bench`, and the same three in `x86-64-v3`.
 What is measured stands in lists by round: `found[COLUMN][WORK]`, where the columns are "C" and the builds' names."""
 

@@ -2,7 +2,7 @@
  * usage: texts
  *
  * What the library says of itself and of its codes, and handles that begin with the header's macros. It ends with 'N passed, M
- * failed', with status 0 only where M is 0.
+ * failed', with status 0 only if M is 0.
  */
 #include "vulandrai.h"
 #include <stdio.h>
