@@ -9,7 +9,7 @@ usage: lookup.py make FILE KEY BUCKETS ROOM < ENTRIES    ENTRIES has a line 'NAM
 
 FILE is served by `pir_server run --file FILE --listen 127.0.0.1:PORT`. KEY is a file with the
 publisher's key, 64 hex digits; HINTS is a folder that keeps the hint for the next time. PIR_SERVER
-names the program where it isn't on the path.
+names the program if it isn't on the path.
 """
 import hashlib
 import os

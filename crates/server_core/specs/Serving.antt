@@ -218,8 +218,8 @@ outcome_of_frame x h st (ChangesAsk since) =
 outcome_of_frame x h st Bye = record { reply = None; standing = Closed; history = h }
 outcome_of_frame x h st _ = refuses refusal.BadFrame Closed h
 
--- whether a frame with this reply may be refused memory: the reply is no greeting's, no refusal,
--- and not the current version in reply to a frame that names another
+-- whether a frame with this reply may be refused memory: there is one, and it is no greeting's, no
+-- refusal, and not the current version in reply to a frame that names another
 abbrev pub may_lack_memory : Option Frame → Bool
 may_lack_memory None = false
 may_lack_memory (Some (Welcome profile width record_len groups count version dimension seed)) = false
