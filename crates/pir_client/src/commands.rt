@@ -9,7 +9,7 @@ use crate::folders::{done_in_folder, print_record};
 use crate::server::{Address, Server};
 use client_commands::{append, get, publish, put};
 use command_words::{Failed, Failure, Secret, open_standard_descriptors, printed, program_words};
-use session_core::{ClientCore, Lanes, Scheme};
+use session_core::{ClientCore, Lanes, Scheme, ServerInfo};
 use std::io;
 use world_script::{RehearseFault, rehearse};
 
@@ -96,8 +96,8 @@ fn rehearsed(rt: &HostRuntime) -> Result<u8, Failed> {
 const WHOLE_SECRET: usize = 1024;
 
 // Warns of secrets of fewer words, once the server has reported their number.
-fn warn_of_short_secrets(rt: &HostRuntime, client: &ClientCore<Lanes>) {
-    if let Some(known) = client.known() {
+fn warn_of_short_secrets(rt: &HostRuntime, known: Option<ServerInfo>) {
+    if let Some(known) = known {
         let dimension = known.dimension();
         if dimension < WHOLE_SECRET {
             let _ = eprintln!(rt;
@@ -132,13 +132,16 @@ fn get_record(
         scheme,
         index,
     );
+    let known = client.known();
+    // A call keeps the prover from taking apart on each way out all that a client owns.
+    drop(client);
     match got {
         Ok(got) => print_record(rt, &got)?,
         Err(fault) => return Err(server.failed(address, failure_of(fault))),
     }
     // A command that fails says nothing else, so the warning is printed only beside a record.
     if least.is_none() {
-        warn_of_short_secrets(rt, &client);
+        warn_of_short_secrets(rt, known);
     }
     Ok(())
 }

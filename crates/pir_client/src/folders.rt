@@ -34,17 +34,18 @@ pub fn done_in_folder(rt: &HostRuntime, task: FolderTask<'_>) -> Result<(), Fail
             let seed = fresh_seed(rt)?;
             let folder = Folder::open(rt, state).map_err(|fault| folder_failed(rt, state, fault))?;
             let old = taken_over(&folder)?;
-            let session = if no_older {
+            let mut session = if no_older {
                 session_of_no_older(rt, folder, &server, seed, least, choice)?
             } else {
                 Session::begin(rt, folder, &server, seed, least, choice)?
             };
-            let mut session = if progress {
-                session.with_progress()
-            } else {
-                session
-            };
-            get_records(rt, &mut session, &server, &indices)?;
+            if progress {
+                session.say_progress();
+            }
+            let got = get_records(rt, &mut session, &server, &indices);
+            // A call keeps the prover from taking apart here all that a session owns.
+            drop(session);
+            got?;
             warn_of_old(rt, old);
             Ok(())
         }
@@ -96,11 +97,15 @@ fn session_of_no_older<'a>(
         if session.warnings().older.is_none() {
             return Ok(session);
         }
+        drop(session);
     }
     let session = Session::begin(rt, folder, address, seed, least, choice)?;
     match session.warnings().older {
         None => Ok(session),
-        Some(older) => Err(older_failed(rt, older)),
+        Some(older) => {
+            drop(session);
+            Err(older_failed(rt, older))
+        }
     }
 }
 

@@ -82,9 +82,13 @@ impl<'a> Session<'a> {
             Ok(client) => client,
             Err(fault) => return Err(server.failed(address, failure_of(fault))),
         };
-        let scheme = match client.known() {
-            Some(now) => choice.scheme(&folder, &now)?,
-            None => Scheme::Simple,
+        let scheme = match scheme_for(&folder, &client, choice) {
+            Ok(scheme) => scheme,
+            Err(fault) => {
+                // A call keeps the prover from taking apart here all that a client owns.
+                drop(client);
+                return Err(Failed::from(fault));
+            }
         };
         let mut session = Session {
             rt,
@@ -96,13 +100,18 @@ impl<'a> Session<'a> {
             warnings: Warnings::default(),
             says: false,
         };
-        session.look_up()?;
-        Ok(session)
+        match session.look_up() {
+            Ok(()) => Ok(session),
+            Err(fault) => {
+                drop(session);
+                Err(Failed::from(fault))
+            }
+        }
     }
 
-    /// The same session, which says how much of a hint has come.
-    pub fn with_progress(self) -> Session<'a> {
-        Session { says: true, ..self }
+    /// From now on it is said how much of a hint has come.
+    pub fn say_progress(&mut self) {
+        self.says = true;
     }
 
     /// How a command of this session failed.
@@ -121,7 +130,8 @@ impl<'a> Session<'a> {
         let Some(now) = self.client.known() else {
             return Ok(());
         };
-        self.kept = self.kept_hint(self.scheme, &now)?;
+        let kept = self.kept_hint(self.scheme, &now)?;
+        self.have_kept(kept);
         let other = match self.scheme {
             Scheme::Simple => Scheme::Double,
             Scheme::Double => Scheme::Simple,
@@ -130,6 +140,11 @@ impl<'a> Session<'a> {
         let seen = version_seen(&self.kept).max(version_seen(&beside));
         self.warnings.older = older_than(seen, now.version);
         Ok(())
+    }
+
+    // From now on this is the hint kept.
+    fn have_kept(&mut self, kept: Option<MovedHint<'a>>) {
+        self.kept = kept;
     }
 
     // The hint kept of a scheme for the store. One that is damaged, or can't be read, is none.
@@ -208,7 +223,7 @@ impl<'a> Session<'a> {
             Moved::On => {}
             Moved::NotKept => self.warnings.is_not_kept = true,
             Moved::Full => self.fold()?,
-            Moved::Nowhere => self.kept = None,
+            Moved::Nowhere => self.have_kept(None),
         }
         Ok(())
     }
@@ -229,7 +244,7 @@ impl<'a> Session<'a> {
             Err(HintError::Memory) => Err(CommandError::Call(CallFault::Memory)),
             Err(HintError::Damaged | HintError::Read) => {
                 self.warnings.is_damaged = true;
-                self.kept = None;
+                self.have_kept(None);
                 Ok(())
             }
         }
@@ -270,7 +285,7 @@ impl<'a> Session<'a> {
         match asked {
             Ok(None) => {
                 self.warnings.is_of_another_store = true;
-                self.kept = None;
+                self.have_kept(None);
                 Ok(None)
             }
             Ok(Some(_)) | Err(CommandError::Unreadable { .. }) if !are_sound => {
@@ -397,9 +412,37 @@ fn let_in(
     least: usize,
 ) -> Result<ClientCore<Lanes>, CommandError> {
     let mut client = ClientCore::new(rt.alloc(), Lanes, seed, 0);
-    greet_either(rt.alloc(), &mut client, &mut &*server, &mut &*server)?;
-    check_dimension(&client, least)?;
-    Ok(client)
+    match greet(rt, server, &mut client, least) {
+        Ok(()) => Ok(client),
+        Err(fault) => {
+            drop(client);
+            Err(fault)
+        }
+    }
+}
+
+// Has the server let a client in, and judges the length of its secrets.
+fn greet(
+    rt: &HostRuntime,
+    server: &Server,
+    client: &mut ClientCore<Lanes>,
+    least: usize,
+) -> Result<(), CommandError> {
+    greet_either(rt.alloc(), client, &mut &*server, &mut &*server)?;
+    check_dimension(client, least)?;
+    Ok(())
+}
+
+// The scheme for a client that was let in.
+fn scheme_for(
+    folder: &Folder<'_>,
+    client: &ClientCore<Lanes>,
+    choice: SchemeChoice,
+) -> Result<Scheme, AllocError> {
+    match client.known() {
+        Some(now) => choice.scheme(folder, &now),
+        None => Ok(Scheme::Simple),
+    }
 }
 
 // The version that a server had reported last beside a hint kept; 0 if there is none.

@@ -58,9 +58,9 @@ fn push_from(
     aim: Aim,
     key: [u8; 32],
 ) -> Result<(), Failed> {
-    let folder = folder_to_push(rt, rounds, pushing.dir)?;
+    let mut folder = folder_to_push(rt, rounds, pushing.dir)?;
     if pushing.watch {
-        return watch_from(rt, rounds, folder, pushing, aim, key);
+        return watch_from(rt, rounds, &mut folder, pushing, aim, key);
     }
     let round = Round {
         folder: &folder,
@@ -74,7 +74,7 @@ fn push_from(
 fn watch_from(
     rt: &HostRuntime,
     rounds: &mut Rounds,
-    folder: FolderVersion,
+    folder: &mut FolderVersion,
     pushing: &Pushing<'_>,
     aim: Aim,
     key: [u8; 32],

@@ -128,21 +128,35 @@ impl Rounds {
     ) -> Result<Vec<End>, AllocError> {
         let mut talks = Vec::new(rt.alloc());
         let mut ends = Vec::new(rt.alloc());
-        for at in 0..peers.len() {
-            match self.begin(rt, round, &peers[at], at) {
-                Ok(talk) => {
-                    talks.push(Some(talk))?;
-                    ends.push(End::Left(Cause::Timeout))?;
-                }
-                Err(cause) => {
-                    talks.push(None)?;
-                    ends.push(End::Left(cause))?;
-                }
-            }
+        let begun = self.begin_all(rt, round, peers, &mut talks, &mut ends);
+        if begun.is_ok() {
+            self.silence = silence;
+            self.go_on(rt, round, &mut talks, &mut ends);
         }
-        self.silence = silence;
-        self.go_on(rt, round, &mut talks, &mut ends);
+        // A call keeps the prover from taking apart here all that connections own.
+        drop(talks);
+        begun?;
         Ok(ends)
+    }
+
+    // Begins to connect to each of these servers.
+    fn begin_all<'a>(
+        &mut self,
+        rt: &HostRuntime,
+        round: &Round<'a>,
+        peers: &[Peer<'_>],
+        talks: &mut Vec<Option<Talk<'a>>>,
+        ends: &mut Vec<End>,
+    ) -> Result<(), AllocError> {
+        for at in 0..peers.len() {
+            let (talk, end) = match self.begin(rt, round, &peers[at], at) {
+                Ok(talk) => (Some(talk), End::Left(Cause::Timeout)),
+                Err(cause) => (None, End::Left(cause)),
+            };
+            add(talks, talk)?;
+            add(ends, end)?;
+        }
+        Ok(())
     }
 
     // Goes on until each server's part has ended.

@@ -122,7 +122,14 @@ impl<'a> Talk<'a> {
         now: u64,
     ) -> Result<Talk<'a>, Cause> {
         let mut push = Push::new(client);
-        let out = push.greet(key)?;
+        let out = match push.greet(key) {
+            Ok(out) => out,
+            Err(fault) => {
+                // A call keeps the prover from taking apart here all that a client owns.
+                drop(push);
+                return Err(Cause::from(fault));
+            }
+        };
         Ok(Talk {
             alloc,
             stream,
@@ -234,7 +241,7 @@ impl<'a> Talk<'a> {
     fn pushed(&mut self, round: &Round<'a>, step: PushStep) -> Result<Option<End>, Cause> {
         let step = match step {
             PushStep::Greeted(known) if round.aim == Aim::Ask => {
-                self.stage = Stage::Over;
+                self.go_to(Stage::Over);
                 return Ok(Some(End::Told(known)));
             }
             PushStep::Greeted(known) => self.begin_push(round, &known)?,
@@ -274,6 +281,7 @@ impl<'a> Talk<'a> {
             return Ok(Some(End::Pushed(version)));
         };
         if round.aim != Aim::PushAndVerify {
+            drop(push);
             return Ok(Some(End::Pushed(version)));
         }
         let pushed = round.publications_to_verify(self.had);
@@ -281,7 +289,7 @@ impl<'a> Talk<'a> {
         match Verifying::begin(self.alloc, client, pushed, version)? {
             None => Ok(Some(End::Pushed(version))),
             Some((verifying, bytes)) => {
-                self.stage = Stage::Verifying(verifying);
+                self.go_to(Stage::Verifying(verifying));
                 self.give(&bytes)?;
                 Ok(None)
             }
@@ -296,10 +304,15 @@ impl<'a> Talk<'a> {
                 Ok(None)
             }
             Verified::All(version) => {
-                self.stage = Stage::Over;
+                self.go_to(Stage::Over);
                 Ok(Some(End::Pushed(version)))
             }
         }
+    }
+
+    // The conversation is at another stage.
+    fn go_to(&mut self, stage: Stage<'a>) {
+        self.stage = stage;
     }
 
     // Bytes are to be sent after those that are.

@@ -63,36 +63,36 @@ impl Watched {
 pub fn watch(
     rt: &HostRuntime,
     rounds: &mut Rounds,
-    folder: FolderVersion,
+    folder: &mut FolderVersion,
     records: &str,
     aim: Aim,
     key: [u8; 32],
     to: &[Peer<'_>],
 ) -> Result<(), Failed> {
-    let mut folder = folder;
     let mut all = watched_all(rt.alloc(), to.len())?;
     for _ in 0..u64::MAX {
-        let round = Round {
-            folder: &folder,
-            aim,
-            key,
-        };
+        let round = Round { folder, aim, key };
         try_due(rt, rounds, &round, to, &mut all, true)?;
         try_due(rt, rounds, &round, to, &mut all, false)?;
         rounds.rest(LOOK);
-        if is_old(rt, &folder) {
-            match settled_folder(rt, records) {
-                Ok(newer) => {
-                    folder = newer;
-                    all_well_due(&mut all);
-                }
-                Err(Failure::Memory) => return Err(Failed::from(Failure::Memory)),
-                // Another command changes the folder, or its files can't be read for the moment.
-                Err(_) => {}
-            }
+        if is_old(rt, folder) && look_again(rt, folder, records)? {
+            all_well_due(&mut all);
         }
     }
     Ok(())
+}
+
+// Reads the folder again, and returns whether that was possible.
+fn look_again(rt: &HostRuntime, folder: &mut FolderVersion, records: &str) -> Result<bool, Failed> {
+    match settled_folder(rt, records) {
+        Ok(newer) => {
+            *folder = newer;
+            Ok(true)
+        }
+        Err(Failure::Memory) => Err(Failed::from(Failure::Memory)),
+        // Another command changes the folder, or its files can't be read for the moment.
+        Err(_) => Ok(false),
+    }
 }
 
 // Whether a folder's log has another length by now: there is another version, or another snapshot
