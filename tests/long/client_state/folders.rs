@@ -9,7 +9,8 @@ use std::fs;
 use std::os::unix::fs::{PermissionsExt, symlink};
 use std::test::Fail;
 
-// What a server reported with this version: five records of two bytes, two to a column of digits of eight bits.
+// What a server reported with this version: five records of two bytes, two to a column of digits of
+// eight bits.
 fn known(version: u64) -> ServerInfo {
     ServerInfo {
         version,
@@ -161,7 +162,8 @@ fn a_folder_of_before_is_taken_over_once(rt: HostRuntime) -> Result<(), Fail> {
     Ok(())
 }
 
-// The bytes of the file of before of a hint of version 6, when version 7 was known; the digests are Python's, by hashlib.sha256.
+// The bytes of the file of before of a hint of version 6, when version 7 was known; the digests are
+// Python's, by hashlib.sha256.
 fn old_hint(alloc: Global) -> Result<Vec<u8>, Fail> {
     let mut bytes = Vec::new(alloc);
     bytes.extend_from_slice(b"PIRHINT2")?;

@@ -12,7 +12,8 @@ use matrix_u32::Matrix;
 use std::alloc::Global;
 use std::test::Fail;
 
-/// How many bytes stand before the digest of a head: the magic, the fields and the digest of one part.
+/// How many bytes stand before the digest of a head: the magic, the fields and the digest of one
+/// part.
 const BODY_LEN: usize = 118;
 
 // The first bytes, so many, and the others.

@@ -1,5 +1,5 @@
-//! The rows of records beside the whole hint, that hint moved, an ask and its replies. The longer tests are in tests/long/tests_session.
-//! Proved by `tests/long/run --prove`.
+//! The rows of records beside the whole hint, that hint moved, an ask and its replies. The longer
+//! tests are in tests/long/tests_session. Proved by `tests/long/run --prove`.
 
 ghost use Rattle.std.specs.Prelude.{◌≡◌, IfOk};
 

@@ -1,5 +1,5 @@
-//! Tests of publications that are appended to a log, read, and replayed. The stores have two records of a byte, in slots or
-//! not, and n = 1.
+//! Tests of publications that are appended to a log, read, and replayed. The stores have two
+//! records of a byte, in slots or not, and n = 1.
 
 ghost use Rattle.std.specs.Prelude.{◌≡◌, IfOk, IsTrue};
 ghost use Rattle.snapshot_file.specs.Snapshots.{header_of};

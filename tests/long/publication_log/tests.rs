@@ -10,7 +10,8 @@ const HEADER_LEN: usize = 81;
 
 const FIRST_LEN: usize = 143;
 
-// The snapshot of form 1 that docs/FORMATS.md has as an example. Its fields are not said, which keeps them out of the proofs.
+// The snapshot of form 1 that docs/FORMATS.md has as an example. Its fields are not said, which
+// keeps them out of the proofs.
 fn header() -> LogHeader {
     LogHeader {
         form: 1,

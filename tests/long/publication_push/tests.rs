@@ -42,7 +42,8 @@ fn store(alloc: Global) -> Result<Store<Plain>, Fail>
     Ok(store)
 }
 
-// Adds the entry of a publication. No digest is looked at when publications are read one after another.
+// Adds the entry of a publication. No digest is looked at when publications are read one after
+// another.
 fn push_entry(
     alloc: Global,
     log: &mut Vec<u8>,

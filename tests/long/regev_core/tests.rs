@@ -6,7 +6,8 @@ use regev_core::{encrypt, round, strip};
 use std::process::Abort;
 use std::test::Fail;
 
-// One row of two digits, retrieved at column 1 under a public matrix of two rows and one column, with w = 8.
+// One row of two digits, retrieved at column 1 under a public matrix of two rows and one column,
+// with w = 8.
 #[derive(Drop)]
 struct Retrieval {
     a: [u32; 2],

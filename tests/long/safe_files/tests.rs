@@ -1,5 +1,5 @@
-//! The steps of a replacement on a disk in memory. Those of which one fails, and what a real folder has after each, are in `tests`.
-//! Proved by `tests/long/run --prove`.
+//! The steps of a replacement on a disk in memory. Those of which one fails, and what a real folder
+//! has after each, are in `tests`. Proved by `tests/long/run --prove`.
 
 use safe_files::{Bytes, Disk, DiskFailed, ReplaceFault, replace};
 use std::alloc::Global;
@@ -125,7 +125,8 @@ impl Disk for MemoryDisk {
     }
 }
 
-// Replaces the old file by the new one on a disk of which this step fails, and answers what came of it and the disk.
+// Replaces the old file by the new one on a disk of which this step fails, and answers what came of
+// it and the disk.
 fn replaced(
     alloc: Global,
     fails: Option<Name>,

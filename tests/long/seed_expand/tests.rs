@@ -117,7 +117,8 @@ fn words_are_filled_in_order(rt: HostRuntime) -> Result<(), AllocError> {
     assert_eq!(rt; source.place(), 3);
     let more = stream_words(rt.alloc(), &ZERO, 0, 2, 2)?;
     assert!(rt; more.as_slice() == [0xe56a_5d40, 0x28bd_8653].as_slice());
-    // Places run on past 2^64: OpenSSL's words, and one of another program that gives the first two as well.
+    // Places run on past 2^64: OpenSSL's words, and one of another program that gives the first two
+    // as well.
     let far = stream_words(rt.alloc(), &COUNTING, 7, u64::MAX, 3)?;
     assert!(rt; far.as_slice() == [0x5c91_ed25, 0x30cf_b17b, 0xf6a4_b905].as_slice());
     Ok(())

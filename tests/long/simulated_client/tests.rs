@@ -99,7 +99,8 @@ fn play<R: FileSystem + Abort>(
     panic!(rt; "the run doesn't end");
 }
 
-// Retrieves records 1 and 4 in a run. Record 1 has this byte in this version, and so often something is sent.
+// Retrieves records 1 and 4 in a run. Record 1 has this byte in this version, and so often
+// something is sent.
 fn check_run<R: FileSystem + Abort>(
     rt: &R,
     server: &mut ServerCore<Lanes>,

@@ -1,5 +1,5 @@
-//! A look ahead at the frame that a piece completes: a query is seen only once it is whole, with its scheme, version and words, and
-//! nothing else is seen as one.
+//! A look ahead at the frame that a piece completes: a query is seen only once it is whole, with
+//! its scheme, version and words, and nothing else is seen as one.
 
 use frame_codec::{Frame, QueryHead, ReadFault, Reader};
 use std::alloc::Global;

@@ -1,5 +1,6 @@
-//! Files of changes: two worked blocks, files that are cut or changed at each byte, of another hint, from another version, with lengths
-//! that no file has, and appended to over a torn end. The worked bytes were computed by Python's hashlib and struct.
+//! Files of changes: two worked blocks, files that are cut or changed at each byte, of another
+//! hint, from another version, with lengths that no file has, and appended to over a torn end. The
+//! worked bytes were computed by Python's hashlib and struct.
 
 use change_file::{Block, ChangesEnd, Link, block_bytes, end_in, head_bytes, next_block, read_head};
 use std::alloc::{AllocError, Global};

@@ -1,4 +1,5 @@
-//! The two kinds of frames that streams of a wide database alone have: changed records are asked for, and given.
+//! The two kinds of frames that streams of a wide database alone have: changed records are asked
+//! for, and given.
 
 use frame_codec::{Bytes, Frame, ReadFault, Reader, write_frame};
 use std::process::Abort;
@@ -7,17 +8,26 @@ use std::test::Fail;
 /// What has changed since version 258.
 const CHANGES_ASK: [u8; 13] = [8, 0, 0, 0, 0x0a, 2, 1, 0, 0, 0, 0, 0, 0];
 
-/// From version 258 to version 259 of seven records, record 5 of two bytes has changed from 0102 to 0304.
+/// From version 258 to version 259 of seven records, record 5 of two bytes has changed from 0102 to
+/// 0304.
 const CHANGES: [u8; 33] = [
-    28, 0, 0, 0, 0x8a, 2, 1, 0, 0, 0, 0, 0, 0, 3, 1, 0, 0, 0, 0, 0, 0, 7, 0, 0, 0, 5, 0, 0, 0, 1, 2, 3,
-    4,
+    28, 0, 0, 0, 0x8a, 2, 1, 0, 0, 0, 0, 0, 0, 3, 1, 0, 0, 0, 0, 0, 0, 7, 0, 0, 0, 5, 0, 0, 0, 1,
+    2, 3, 4,
 ];
 
 const ENTRY: [u8; 8] = [5, 0, 0, 0, 1, 2, 3, 4];
 
 fn check_frames(rt: &impl Abort, frames: &[Frame]) {
     match frames {
-        [Frame::ChangesAsk { since }, Frame::Changes { since: from, now, count, entries }] => {
+        [
+            Frame::ChangesAsk { since },
+            Frame::Changes {
+                since: from,
+                now,
+                count,
+                entries,
+            },
+        ] => {
             assert_eq!(rt; *since, 258);
             assert_eq!(rt; *from, 258);
             assert_eq!(rt; *now, 259);
@@ -66,7 +76,10 @@ fn to_an_ordinary_stream_they_are_unknown_at_the_fifth_byte(rt: HostRuntime) -> 
         let mut frames = Vec::new(rt.alloc());
         let (length, rest) = frame.split_at(4);
         assert_eq!(rt; reader.feed(false, length, &mut frames), Ok(()));
-        assert_eq!(rt; reader.feed(false, &rest[..1], &mut frames), Err(ReadFault::UnknownKind));
+        assert_eq!(rt;
+            reader.feed(false, &rest[..1], &mut frames),
+            Err(ReadFault::UnknownKind)
+        );
         assert_eq!(rt; frames.len(), 0);
     }
     Ok(())
@@ -79,10 +92,17 @@ fn payloads_of_other_lengths_are_bad(rt: HostRuntime) -> Result<(), Fail> {
     let short_reply = [
         19, 0, 0, 0, 0x8a, 2, 1, 0, 0, 0, 0, 0, 0, 3, 1, 0, 0, 0, 0, 0, 0, 7, 0, 0,
     ];
-    for frame in [short_ask.as_slice(), long_ask.as_slice(), short_reply.as_slice()] {
+    for frame in [
+        short_ask.as_slice(),
+        long_ask.as_slice(),
+        short_reply.as_slice(),
+    ] {
         let mut reader = Reader::new(rt.alloc());
         let mut frames = Vec::new(rt.alloc());
-        assert_eq!(rt; reader.feed(true, frame, &mut frames), Err(ReadFault::BadPayload));
+        assert_eq!(rt;
+            reader.feed(true, frame, &mut frames),
+            Err(ReadFault::BadPayload)
+        );
     }
     Ok(())
 }

@@ -1,5 +1,5 @@
-//! Pieces read and bytes written, by calls over a reader or a writer and over a connection: whole, in short calls, and
-//! where a call fails once or from some byte on.
+//! Pieces read and bytes written, by calls over a reader or a writer and over a connection: whole,
+//! in short calls, and where a call fails once or from some byte on.
 //!
 //! Proved by `tests/long/run --prove`.
 

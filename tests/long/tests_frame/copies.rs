@@ -1,4 +1,5 @@
-//! Snapshots that are written while their records are read, from readers and to writers over memory that take their time or fail.
+//! Snapshots that are written while their records are read, from readers and to writers over memory
+//! that take their time or fail.
 
 use snapshot_file::{CopyFault, Header, write_snapshot_bytes, write_snapshot_read};
 use std::alloc::Global;

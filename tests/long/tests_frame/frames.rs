@@ -31,8 +31,8 @@ const EDIT: [u8; 10] = [0x05, 0, 0, 0, 0x06, 0, 0, 0, 0, 0x64];
 
 const PUBLISH: [u8; 5] = [0, 0, 0, 0, 0x07];
 
-/// Two records of one byte at version 1, in one group, with digits of eight bits and dimension 1: 32 zero
-/// bytes follow.
+/// Two records of one byte at version 1, in one group, with digits of eight bits and dimension 1:
+/// 32 zero bytes follow.
 const WELCOME: [u8; 26] = [
     0x35, 0, 0, 0, 0x82, 0x01, 0, 0x08, 0x01, 0, 0x01, 0, 0x02, 0, 0, 0, 0x01, 0, 0, 0, 0, 0, 0, 0,
     0x01, 0,
@@ -207,7 +207,8 @@ fn writes_each_kind(rt: HostRuntime) -> Result<(), Fail> {
     Ok(())
 }
 
-/// Whether a frame that a client sends has the fields of `push_asked`, or a server's those of `push_replied`.
+/// Whether a frame that a client sends has the fields of `push_asked`, or a server's those of
+/// `push_replied`.
 fn has_its_fields(frame: Frame) -> bool {
     match frame {
         Frame::Load {
@@ -351,7 +352,8 @@ fn reads_byte_by_byte(rt: HostRuntime) -> Result<(), Fail> {
     Ok(())
 }
 
-/// Of frames of five bytes among longer ones, all in one piece, none is held back or answered as refused memory.
+/// Of frames of five bytes among longer ones, all in one piece, none is held back or answered as
+/// refused memory.
 #[test]
 fn many_small_frames_in_one_piece(rt: HostRuntime) -> Result<(), Fail> {
     let mut stream = Vec::new(rt.alloc());

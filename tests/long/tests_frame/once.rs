@@ -33,7 +33,8 @@ const PIECE: usize = 65_536;
 
 const TURNS: u64 = 1000;
 
-// An output that asks for no memory when it is written to, so that refused memory isn't reported as a failed write.
+// An output that asks for no memory when it is written to, so that refused memory isn't reported as
+// a failed write.
 fn make_output(alloc: Global, room: usize, fails: bool) -> Result<Output, AllocError> {
     Ok(Output {
         bytes: Vec::with_capacity(alloc, room)?,

@@ -1,4 +1,5 @@
-//! Snapshots whose records have lengths of their own: the file of two, damaged, and records of one length moved into slots.
+//! Snapshots whose records have lengths of their own: the file of two, damaged, and records of one
+//! length moved into slots.
 //!
 //! Proved by `tests/long/run --prove`.
 
@@ -11,7 +12,8 @@ use std::process::Abort;
 use std::test::Fail;
 use test_support::{RECORDS, TWO_RECORDS};
 
-/// Records 0a and c8 in slots of three bytes, and else the store of two records. Made with Python's hashlib.
+/// Records 0a and c8 in slots of three bytes, and else the store of two records. Made with Python's
+/// hashlib.
 const STORE: [u8; 129] = [
     0x50, 0x49, 0x52, 0x53, 0x4e, 0x41, 0x50, 0x32, 0x08, 0x03, 0x00, 0x01, 0x00, 0x02, 0x00, 0x00,
     0x00, 0x01, 0x00, 0x01, 0x00, 0x00, 0x00, 0x00, 0x00, 0x00, 0x00, 0x00, 0x00, 0x00, 0x00, 0x00,
@@ -34,7 +36,10 @@ fn read(alloc: Global, mut file: &[u8]) -> Result<Snapshot, Fail> {
 }
 
 // The snapshot of a file, with its records moved into slots.
-pub(crate) fn moved(alloc: Global, mut file: &[u8]) -> Result<Result<Snapshot, MigrateError>, Fail> {
+pub(crate) fn moved(
+    alloc: Global,
+    mut file: &[u8],
+) -> Result<Result<Snapshot, MigrateError>, Fail> {
     let snapshot = read_snapshot(alloc, &mut file)?;
     Ok(migrate(alloc, &snapshot))
 }
@@ -87,8 +92,8 @@ fn each_cut_and_each_change(rt: HostRuntime) -> Result<(), Fail> {
     Ok(())
 }
 
-// A length that is more than the bytes after it, and a byte after a record of none: both are found at the end alone,
-// after a byte too many and a wrong digest.
+// A length that is more than the bytes after it, and a byte after a record of none: both are found
+// at the end alone, after a byte too many and a wrong digest.
 #[test]
 fn a_bad_slot_is_found_last(rt: HostRuntime) -> Result<(), Fail> {
     for first in [0x02, 0x00] {
@@ -133,7 +138,8 @@ fn records_are_moved_into_slots(rt: HostRuntime) -> Result<(), Fail> {
     Ok(())
 }
 
-// 257 bytes are no record, and 64 records of 66 digits have more rows than there may be; 16 of 256 have as many.
+// 257 bytes are no record, and 64 records of 66 digits have more rows than there may be; 16 of 256
+// have as many.
 #[test]
 fn records_too_wide_for_slots(rt: HostRuntime) -> Result<(), Fail> {
     for (record_len, groups, wanted) in [

@@ -1,5 +1,5 @@
-//! The snapshot of two records of one byte, written, read and damaged; readers and writers over memory that
-//! take their time or fail.
+//! The snapshot of two records of one byte, written, read and damaged; readers and writers over
+//! memory that take their time or fail.
 //!
 //! Proved by `tests/long/run --prove`.
 
@@ -11,8 +11,9 @@ use std::process::Abort;
 use std::test::Fail;
 use test_support::{Input, Output, RECORDS, TWO_RECORDS};
 
-/// Records 0a and c8 of one byte each, digits of eight bits, one record to a column, secrets of one word,
-/// version 1, a seed of zeros, and a publisher whose key is 32 bytes 01. Made with Python's hashlib.
+/// Records 0a and c8 of one byte each, digits of eight bits, one record to a column, secrets of one
+/// word, version 1, a seed of zeros, and a publisher whose key is 32 bytes 01. Made with Python's
+/// hashlib.
 const STORE: [u8; 125] = [
     0x50, 0x49, 0x52, 0x53, 0x4e, 0x41, 0x50, 0x31, 0x08, 0x01, 0x00, 0x01, 0x00, 0x02, 0x00, 0x00,
     0x00, 0x01, 0x00, 0x01, 0x00, 0x00, 0x00, 0x00, 0x00, 0x00, 0x00, 0x00, 0x00, 0x00, 0x00, 0x00,
@@ -24,7 +25,8 @@ const STORE: [u8; 125] = [
     0x5c, 0x90, 0xe0, 0xae, 0xcf, 0x91, 0xa3, 0xf1, 0x46, 0xac, 0x72, 0xd2, 0xcd,
 ];
 
-/// The digest of the store's header with count 0. This one and the next were made with Python's hashlib.
+/// The digest of the store's header with count 0. This one and the next were made with Python's
+/// hashlib.
 const EMPTY_DIGEST: [u8; 32] = [
     0x29, 0xcb, 0x5e, 0xea, 0xab, 0x69, 0x00, 0x6d, 0xb2, 0x09, 0x94, 0x55, 0xca, 0xc5, 0x42, 0x87,
     0x33, 0xd9, 0x28, 0x76, 0x5d, 0xd8, 0x7f, 0x01, 0xbf, 0x77, 0x4e, 0xf4, 0x95, 0xd1, 0xd5, 0x5c,

@@ -1,9 +1,11 @@
-//! Snapshots of wide stores: the files of two records in both forms, damaged; records moved into slots; and ordinary snapshots
-//! made wide.
+//! Snapshots of wide stores: the files of two records in both forms, damaged; records moved into
+//! slots; and ordinary snapshots made wide.
 
 use crate::slots::{file_of, moved};
 use crate::snapshots::{fault, fault_failing};
-use snapshot_file::{Header, MigrateError, Snapshot, SnapshotFault, WidenError, read_snapshot, widen};
+use snapshot_file::{
+    Header, MigrateError, Snapshot, SnapshotFault, WidenError, read_snapshot, widen,
+};
 use std::alloc::Global;
 use std::process::Abort;
 use std::test::Fail;
@@ -119,8 +121,8 @@ fn every_cut_is_short(rt: HostRuntime) {
     }
 }
 
-// Compares the fault of a file with another byte at a place, and those of its first 92 bytes and of one fewer: the header
-// is judged with its last byte, and its magic with the eighth.
+// Compares the fault of a file with another byte at a place, and those of its first 92 bytes and of
+// one fewer: the header is judged with its last byte, and its magic with the eighth.
 fn is_refused_with(
     rt: &impl Abort,
     alloc: Global,
@@ -142,8 +144,8 @@ fn is_refused_with(
     Ok(())
 }
 
-/// Places in the header up to the version's first byte, another byte for each, and what the file is then refused for. An
-/// accepted header that claims more bytes than there are makes it Short.
+/// Places in the header up to the version's first byte, another byte for each, and what the file is
+/// then refused for. An accepted header that claims more bytes than there are makes it Short.
 const CHANGES: [(usize, u8, SnapshotFault); 39] = [
     (0, 0x51, SnapshotFault::NotSnapshot),
     (1, 0x48, SnapshotFault::NotSnapshot),
@@ -215,7 +217,8 @@ fn each_later_byte(rt: HostRuntime) -> Result<(), Fail> {
     Ok(())
 }
 
-// A digest that fits does not help: no wide file has one of these forms, and no ordinary one a wide form.
+// A digest that fits does not help: no wide file has one of these forms, and no ordinary one a wide
+// form.
 #[test]
 fn other_forms_in_a_wide_file(rt: HostRuntime) -> Result<(), Fail> {
     for form in [131, 132, 255] {
@@ -249,7 +252,11 @@ fn is_judged(
     let file = file_of(alloc, &header, &[])?;
     let part = file.get(..HEADER_LEN).unwrap_or(&[]);
     assert_eq!(rt; fault(alloc, part), Some(wanted), "{header:?}");
-    assert_eq!(rt; header.is_accepted(), wanted == SnapshotFault::Short, "{header:?}");
+    assert_eq!(rt;
+        header.is_accepted(),
+        wanted == SnapshotFault::Short,
+        "{header:?}"
+    );
     Ok(())
 }
 
@@ -326,8 +333,8 @@ fn records_are_moved_into_slots(rt: HostRuntime) -> Result<(), Fail> {
     Ok(())
 }
 
-// 257 bytes are no record; the parts of a query for records of 254 bytes have too many words with 64 to a column, for
-// records of 252 they have not.
+// 257 bytes are no record; the parts of a query for records of 254 bytes have too many words with
+// 64 to a column, for records of 252 they have not.
 #[test]
 fn records_too_wide_for_slots(rt: HostRuntime) -> Result<(), Fail> {
     for (record_len, groups, wanted) in [
@@ -343,14 +350,19 @@ fn records_too_wide_for_slots(rt: HostRuntime) -> Result<(), Fail> {
             ..of_one_length()
         };
         let file = file_of(rt.alloc(), &header, &[7; 255][..record_len as usize])?;
-        assert_eq!(rt; moved(rt.alloc(), &file)?.err(), wanted, "{record_len} {groups}");
+        assert_eq!(rt;
+            moved(rt.alloc(), &file)?.err(),
+            wanted,
+            "{record_len} {groups}"
+        );
     }
     Ok(())
 }
 
 const SEED: [u8; 32] = [0x33; 32];
 
-// A file made wide has these fields, its records, and the new seed; and a wide one can't be made so again.
+// A file made wide has these fields, its records, and the new seed; and a wide one can't be made so
+// again.
 fn is_made_wide(
     rt: &impl Abort,
     alloc: Global,

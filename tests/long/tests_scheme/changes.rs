@@ -1,7 +1,9 @@
 //! Hints moved by records that changed, and the same made from scratch.
 
 use digit_pack::{Layout, Wide3, digits_of_records};
-use hint_changes::{PublicRow, are_entries, entry_len, move_by_entries, move_record, move_record_rows};
+use hint_changes::{
+    PublicRow, are_entries, entry_len, move_by_entries, move_record, move_record_rows,
+};
 use lane_kernels::Lanes;
 use matrix_u32::{Kernel, Matrix, Plain};
 use seed_expand::expand;
@@ -15,7 +17,8 @@ const DIMENSION: usize = 3;
 
 const LEN: usize = 4;
 
-// Records of four bytes that stand one after another, with the hint that was moved by each change of them.
+// Records of four bytes that stand one after another, with the hint that was moved by each change
+// of them.
 #[derive(Drop)]
 struct Moved {
     layout: Layout,
@@ -91,7 +94,12 @@ fn changes_of_each_record<K: Kernel>(
             change(kernel, &mut moved, i, &[255, i as u8, 0, 1]);
             is_that_from_scratch(rt, &moved)?;
         }
-        for (i, new) in [(0, [0; LEN]), (count - 1, [255; LEN]), (0, [1, 2, 3, 4]), (0, [1, 2, 3, 4])] {
+        for (i, new) in [
+            (0, [0; LEN]),
+            (count - 1, [255; LEN]),
+            (0, [1, 2, 3, 4]),
+            (0, [1, 2, 3, 4]),
+        ] {
             change(kernel, &mut moved, i, &new);
             is_that_from_scratch(rt, &moved)?;
         }
@@ -127,12 +135,14 @@ fn rows_in_place(alloc: Global, moved: &Moved, group: usize) -> Result<Matrix, F
     let count = moved.layout.digits_per_record();
     let mut rows = Matrix::zeros(alloc, count, DIMENSION)?;
     for d in 0..count {
-        rows.row_mut(d).copy_from_slice(moved.hint.row(group * count + d));
+        rows.row_mut(d)
+            .copy_from_slice(moved.hint.row(group * count + d));
     }
     Ok(rows)
 }
 
-// The rows of each record's place, moved alone, are those of the moved hint; those of the other places stay.
+// The rows of each record's place, moved alone, are those of the moved hint; those of the other
+// places stay.
 #[test]
 fn rows_of_one_place_are_moved_alone(rt: HostRuntime) -> Result<(), Fail> {
     let layout = Layout::of_form(129, 9, LEN, 4, 12)?;
@@ -145,8 +155,14 @@ fn rows_of_one_place_are_moved_alone(rt: HostRuntime) -> Result<(), Fail> {
         let old = &moved.bytes[i * LEN..(i + 1) * LEN];
         move_record_rows(Lanes, &layout, &mut public, &mut rows, i, old, &new);
         change(Lanes, &mut moved, i, &new);
-        assert_eq!(rt; rows.words(), rows_in_place(rt.alloc(), &moved, i % 4)?.words());
-        assert_eq!(rt; beside.words(), rows_in_place(rt.alloc(), &moved, (i + 1) % 4)?.words());
+        assert_eq!(rt;
+            rows.words(),
+            rows_in_place(rt.alloc(), &moved, i % 4)?.words()
+        );
+        assert_eq!(rt;
+            beside.words(),
+            rows_in_place(rt.alloc(), &moved, (i + 1) % 4)?.words()
+        );
     }
     Ok(())
 }
@@ -173,7 +189,12 @@ fn moves_by_entries<K: Kernel>(rt: &(impl Abort + AllocGlobal), kernel: K) -> Re
         }
         assert_eq!(rt; entries.len(), 14 / step * entry_len(LEN));
         assert!(rt; are_entries(&moved.layout, &entries));
-        let Moved { layout, hint, public, .. } = &mut moved;
+        let Moved {
+            layout,
+            hint,
+            public,
+            ..
+        } = &mut moved;
         move_by_entries(kernel, layout, public, hint, &entries);
         is_that_from_scratch(rt, &moved)?;
     }
@@ -190,7 +211,13 @@ fn entries_move_a_hint(rt: HostRuntime) -> Result<(), Fail> {
 #[test]
 fn bad_entries_are_seen(rt: HostRuntime) -> Result<(), Fail> {
     let moved = begin(rt.alloc(), Layout::of_form(130, 8, LEN, 3, 7)?)?;
-    for (first, second, wanted) in [(0, 6, true), (2, 3, true), (3, 3, false), (4, 3, false), (0, 0, false)] {
+    for (first, second, wanted) in [
+        (0, 6, true),
+        (2, 3, true),
+        (3, 3, false),
+        (4, 3, false),
+        (0, 0, false),
+    ] {
         let mut entries = Vec::new(rt.alloc());
         push_entry(&mut entries, &moved, first, 1)?;
         push_entry(&mut entries, &moved, second, 2)?;

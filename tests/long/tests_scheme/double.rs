@@ -1,5 +1,5 @@
-//! Both records of a store of two. A retrieval with chosen secrets, records of several digits and answers that give no
-//! record are in the folder `double`.
+//! Both records of a store of two. A retrieval with chosen secrets, records of several digits and
+//! answers that give no record are in the folder `double`.
 //!
 //! Proved by `tests/long/run --prove`.
 
@@ -163,7 +163,8 @@ fn a_query_under_rows_made_in_turn(rt: HostRuntime) -> Result<(), Fail> {
     Ok(())
 }
 
-// Queries whose prefix is made of the masks of three retrievals, from number 3 on, and the same made at once.
+// Queries whose prefix is made of the masks of three retrievals, from number 3 on, and the same
+// made at once.
 #[test]
 fn queries_of_masks(rt: HostRuntime) -> Result<(), Fail> {
     let layout = Layout::new(8, 2, 3, 10)?;

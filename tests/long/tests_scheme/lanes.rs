@@ -78,8 +78,8 @@ fn words(alloc: Global, count: usize, seed: u32) -> Result<Vec<u32>, AllocError>
     Ok(words)
 }
 
-// A row of `rows` words, the product of a matrix of `rows` rows and `inner` columns with one of `cols`
-// columns, and a list to which the row of `inner` words was added, by one kernel.
+// A row of `rows` words, the product of a matrix of `rows` rows and `inner` columns with one of
+// `cols` columns, and a list to which the row of `inner` words was added, by one kernel.
 fn made_by<K: Kernel>(
     kernel: K,
     alloc: Global,
@@ -138,7 +138,8 @@ fn packed_row_of_seven_columns(rt: HostRuntime) {
 
 #[test]
 fn packed_digits_agree_with_flat_ones(rt: HostRuntime) {
-    // Five rows of two words, of which the last three digits of each row stand past its four columns.
+    // Five rows of two words, of which the last three digits of each row stand past its four
+    // columns.
     let packed = [
         1u32, 2, 1024, 1023, 1_048_576, 0, 1_049_601, 7, 3_148_803, 1,
     ];

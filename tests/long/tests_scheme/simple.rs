@@ -228,8 +228,8 @@ fn answers_that_give_no_record(rt: HostRuntime) -> Result<(), Fail> {
     Ok(())
 }
 
-// The queries of three retrievals, from number 3 on, made of masks and each by itself, for the first and the last of ten
-// records in four columns.
+// The queries of three retrievals, from number 3 on, made of masks and each by itself, for the
+// first and the last of ten records in four columns.
 fn masks_give_the_queries<K: Kernel>(
     rt: &(impl Abort + AllocGlobal),
     kernel: K,

@@ -33,8 +33,8 @@ fn an_equal_digit_changes_nothing(rt: HostRuntime) -> Result<(), Fail> {
     Ok(())
 }
 
-// The hints of both sides for the words of the first hint, of as many rows and columns as A2: digits of 8
-// bits.
+// The hints of both sides for the words of the first hint, of as many rows and columns as A2:
+// digits of 8 bits.
 fn both_hints<K: Kernel, S: DigitStore>(
     rt: &(impl Abort + AllocGlobal),
     kernel: K,
@@ -59,7 +59,8 @@ fn columns<S: DigitStore>(rt: &(impl Abort + AllocGlobal), server: &S) -> Result
     Ok(digits)
 }
 
-// Digits 1 2 over 3 4 under A1 = (3), (5) have the first hint 13, 29; with 200 for the 2 it is 1003, 29.
+// Digits 1 2 over 3 4 under A1 = (3), (5) have the first hint 13, 29; with 200 for the 2 it is
+// 1003, 29.
 fn follows_one_row<K: Kernel, S: DigitStore>(
     rt: &(impl Abort + AllocGlobal),
     kernel: K,

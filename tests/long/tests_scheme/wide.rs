@@ -50,7 +50,8 @@ fn wide_layouts_are_refused_by_their_first_cause(rt: HostRuntime) {
     }
 }
 
-// K is 256 with records of 256 bytes, and 342 in digits of six bits. One group more is K times K words more.
+// K is 256 with records of 256 bytes, and 342 in digits of six bits. One group more is K times K
+// words more.
 #[test]
 fn the_parts_of_a_query_have_their_limit(rt: HostRuntime) {
     for (width, record_len, most) in [

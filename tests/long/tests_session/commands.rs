@@ -12,8 +12,8 @@ use std::io::Read;
 use std::process::Abort;
 use std::test::Fail;
 
-// Two records of one byte, each a column of its own, at version 1, with secrets of one word. The seed of zeros
-// follows.
+// Two records of one byte, each a column of its own, at version 1, with secrets of one word. The
+// seed of zeros follows.
 const WELCOME: &[u8] = &[
     0x35, 0, 0, 0, 0x82, 1, 0, 8, 1, 0, 1, 0, 2, 0, 0, 0, 1, 0, 0, 0, 0, 0, 0, 0, 1, 0,
 ];
@@ -113,7 +113,8 @@ fn hex_of(alloc: Global, bytes: &[u8]) -> Result<String, Fail> {
     Ok(text)
 }
 
-// Gets a record from a server that says these frames, and compares what it came to and how much was written.
+// Gets a record from a server that says these frames, and compares what it came to and how much was
+// written.
 fn gets(
     rt: &(impl Abort + AllocGlobal),
     index: u32,

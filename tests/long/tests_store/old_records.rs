@@ -243,7 +243,8 @@ fn the_17th_publication(rt: HostRuntime) -> Result<(), Fail> {
     Ok(())
 }
 
-// The last memory that is taken is that of the log itself: whichever request after it is refused, none is met.
+// The last memory that is taken is that of the log itself: whichever request after it is refused,
+// none is met.
 #[test]
 fn a_full_log_takes_no_memory(rt: HostRuntime) -> Result<(), Fail> {
     let mut lists = Vec::new(rt.alloc());
@@ -362,7 +363,8 @@ fn are_even_numbers(rt: &impl Abort, olds: &OldRecords, n: u32) {
     assert_eq!(rt; olds.first_from(2 * n), None);
 }
 
-// With any one request for memory refused, this test passes: what was refused is done when it is asked for again.
+// With any one request for memory refused, this test passes: what was refused is done when it is
+// asked for again.
 #[test]
 fn refused_memory_leaves_old_records(rt: HostRuntime) -> Result<(), Fail> {
     let mut olds = OldRecords::new(rt.alloc(), 3);

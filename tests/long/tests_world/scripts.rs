@@ -7,7 +7,8 @@ use std::alloc::Global;
 use std::process::Abort;
 use std::test::Fail;
 
-// One client's query is half delivered when its record is published anew; the other's was answered before.
+// One client's query is half delivered when its record is published anew; the other's was answered
+// before.
 const RUN: &str = "world 8 1 1 2
 seed 0000000000000000000000000000000000000000000000000000000000000000
 record 0a

@@ -110,7 +110,8 @@ fn opening(alloc: Global, snapshot: &Snapshot) -> Result<Opening, Fail> {
     Ok(opening)
 }
 
-// The store of an opening after all publications of a log, the earlier of which are made on the records alone.
+// The store of an opening after all publications of a log, the earlier of which are made on the
+// records alone.
 fn restored_early(
     alloc: Global,
     opening: Opening,
@@ -126,7 +127,8 @@ fn restored_early(
     Ok(store)
 }
 
-// A snapshot's records after the earlier publications, and the log of a snapshot of these, of the latest 16.
+// A snapshot's records after the earlier publications, and the log of a snapshot of these, of the
+// latest 16.
 fn compacted(
     alloc: Global,
     snapshot: &mut Snapshot,
@@ -190,7 +192,8 @@ fn are_alike(
     Ok(())
 }
 
-// Publishes, restores the store from its first snapshot, in both ways, and from one of 16 versions before the last.
+// Publishes, restores the store from its first snapshot, in both ways, and from one of 16 versions
+// before the last.
 fn restores(rt: &impl Abort, alloc: Global, form: u8) -> Result<(), Fail> {
     let mut log = empty_log(alloc, form)?;
     let store = published(alloc, form, &mut log)?;

@@ -1,4 +1,5 @@
-//! Logs that are torn at each length, that have each byte changed, and whose entries are in another's place.
+//! Logs that are torn at each length, that have each byte changed, and whose entries are in
+//! another's place.
 
 use super::worked::example;
 use super::{FIRST_LEN, HEADER_LEN, header, part};

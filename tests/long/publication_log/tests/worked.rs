@@ -1,4 +1,5 @@
-//! The example of docs/FORMATS.md, whose bytes were computed by Python's hashlib and struct, and the refusals of a builder.
+//! The example of docs/FORMATS.md, whose bytes were computed by Python's hashlib and struct, and
+//! the refusals of a builder.
 
 use super::{FIRST_LEN, HEADER_LEN, first, header, part};
 use publication_log::{

@@ -1,7 +1,10 @@
 //! What a real folder has after replacements, and what is beside a file.
 
 use super::{NEW, OLD};
-use safe_files::{Bytes, FileLock, LockFault, Place, ReplaceFault, lock, open_file, remove_beside, replace, replace_file, settle};
+use safe_files::{
+    Bytes, FileLock, LockFault, Place, ReplaceFault, lock, open_file, remove_beside, replace,
+    replace_file, settle,
+};
 use std::fs;
 use std::os::unix::fs::{PermissionsExt, symlink};
 use std::test::Fail;
@@ -157,7 +160,12 @@ fn marked_files_are_removed_but_one(rt: HostRuntime) -> Result<(), Fail> {
     }
     symlink(&rt, "file", "marked/file.log-0000000000000000")?;
     fs::create_dir(&rt, "marked/file.log-1111111111111111")?;
-    remove_beside(&rt, "marked/file", ".log-", "marked/file.log-00000000000000aa");
+    remove_beside(
+        &rt,
+        "marked/file",
+        ".log-",
+        "marked/file.log-00000000000000aa",
+    );
     for name in stays {
         assert!(rt; fs::exists(&rt, name)?);
     }

@@ -7,7 +7,8 @@ fn byte(k: usize) -> u8 {
     (k % 251) as u8
 }
 
-// 10,000 records of 7 bytes in digits of 8 bits, 100 to a column, and a query of 100 words, each of them 1.
+// 10,000 records of 7 bytes in digits of 8 bits, 100 to a column, and a query of 100 words, each of
+// them 1.
 fn load_and_query(alloc: Global) -> Result<Vec<u8>, AllocError> {
     let mut bytes = Vec::new(alloc);
     bytes.extend_from_slice(&[0x75, 0x11, 0x01, 0x00, 0x01, 7, 0, 100, 0, 8])?;

@@ -26,9 +26,9 @@ fn records_of_several_digits(rt: HostRuntime) -> Result<(), Fail> {
     retrieves_long_records::<Lanes, Packed3>(&rt, Lanes)
 }
 
-// What words read as under a hint of zeros, where a word stands for its nearest digit: six words of h, then
-// for each of three digits six words for a row and six that write the digit times 2^26. Only bits 24 and up
-// of each digit are given, as two digits of 6 bits.
+// What words read as under a hint of zeros, where a word stands for its nearest digit: six words of
+// h, then for each of three digits six words for a row and six that write the digit times 2^26.
+// Only bits 24 and up of each digit are given, as two digits of 6 bits.
 fn read(
     rt: &(impl Abort + AllocGlobal),
     tops: &[[u32; 2]],

@@ -71,8 +71,8 @@ fn word_read(
     Ok(join_word(&digits, 8))
 }
 
-// The digit that an answer of 12 words gives: h, then the two parts' words, under the client's hint and the
-// chosen secrets 11 and 7.
+// The digit that an answer of 12 words gives: h, then the two parts' words, under the client's hint
+// and the chosen secrets 11 and 7.
 fn digit_read(
     rt: &(impl Abort + AllocGlobal),
     answer: &[u32],
@@ -118,7 +118,8 @@ fn has_digits(rt: &impl Abort, word: u32, wanted: [u32; 4]) {
     assert_eq!(rt; digits, wanted);
 }
 
-// The rows of digits on the way of that retrieval: those of D A1, and of the first answer, which stand across.
+// The rows of digits on the way of that retrieval: those of D A1, and of the first answer, which
+// stand across.
 #[test]
 fn the_digits_on_the_way(rt: HostRuntime) -> Result<(), Fail> {
     let layout = Layout::new(8, 1, 2, 4)?;

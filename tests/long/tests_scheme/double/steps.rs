@@ -26,7 +26,8 @@ fn stepped<K: Kernel, S: DigitStore>(
     Ok((steps.into_words(), count))
 }
 
-// Compares both, for a store whose records' bytes are their places, and a query of words that are chosen.
+// Compares both, for a store whose records' bytes are their places, and a query of words that are
+// chosen.
 fn both_ways<K: Kernel, S: DigitStore>(
     rt: &(impl Abort + AllocGlobal),
     kernel: K,
@@ -69,7 +70,14 @@ fn the_same_words_in_steps_as_at_once(rt: HostRuntime) -> Result<(), Fail> {
 
 #[test]
 fn as_many_rows_as_may_be_read(rt: HostRuntime) {
-    for (most, cols, left, wanted) in [(12, 3, 7, 4), (11, 3, 7, 3), (100, 3, 7, 7), (2, 3, 7, 1), (0, 3, 7, 1), (5, 0, 7, 5)] {
+    for (most, cols, left, wanted) in [
+        (12, 3, 7, 4),
+        (11, 3, 7, 3),
+        (100, 3, 7, 7),
+        (2, 3, 7, 1),
+        (0, 3, 7, 1),
+        (5, 0, 7, 5),
+    ] {
         assert_eq!(rt; rows_in_step(most, cols, left), wanted);
     }
 }

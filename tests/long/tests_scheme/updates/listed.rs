@@ -74,8 +74,9 @@ fn words_from(rt: &(impl Abort + AllocGlobal), seed: u32, count: usize) -> Resul
     Ok(words)
 }
 
-// Of 40 rows of three words those with numbers from 5 on, 30 of them, change by their number's delta times the list (a row of A1), and the
-// third word of row 9 by `other` besides. Both hints are then those made from scratch.
+// Of 40 rows of three words those with numbers from 5 on, 30 of them, change by their number's
+// delta times the list (a row of A1), and the third word of row 9 by `other` besides. Both hints
+// are then those made from scratch.
 fn follows_multiples<K: Kernel, S: DigitStore>(
     rt: &(impl Abort + AllocGlobal),
     kernel: K,
@@ -91,23 +92,46 @@ fn follows_multiples<K: Kernel, S: DigitStore>(
     let mut listed = Vec::new(rt.alloc());
     for i in 5..35 {
         for k in 0..3 {
-            words[3 * i + k] = words[3 * i + k].wrapping_add(list[k].wrapping_mul(deltas[i] % 1024 * scale));
+            words[3 * i + k] = words[3 * i + k].wrapping_add(list[k].wrapping_mul(
+                deltas[i] % 1024 * scale,
+            ));
         }
         listed.push(i)?;
     }
     words[3 * 9 + 2] = words[3 * 9 + 2].wrapping_add(other);
     let hint = Matrix::from_words(40, 3, words)?;
-    let (mut server, mut client): (S, Matrix) = double_scheme::setup(rt.alloc(), kernel, &old, &a2, w)?;
-    let (fresh, fresh_client): (S, Matrix) = double_scheme::setup(rt.alloc(), kernel, &hint, &a2, w)?;
+    let (mut server, mut client): (S, Matrix) = double_scheme::setup(
+        rt.alloc(),
+        kernel,
+        &old,
+        &a2,
+        w,
+    )?;
+    let (fresh, fresh_client): (S, Matrix) = double_scheme::setup(
+        rt.alloc(),
+        kernel,
+        &hint,
+        &a2,
+        w,
+    )?;
     let mut room = RowsBuffers::new(rt.alloc(), 32, 3, w)?;
-    update_double_rows(kernel, &mut server, &mut client, &a2, w, &hint, &listed, &mut room);
+    update_double_rows(
+        kernel,
+        &mut server,
+        &mut client,
+        &a2,
+        w,
+        &hint,
+        &listed,
+        &mut room,
+    );
     assert!(rt; columns(rt, &server)? == columns(rt, &fresh)?);
     assert_eq!(rt; client.words(), fresh_client.words());
     Ok(())
 }
 
-// The first word of the list is even, so that none of its changes is odd; in the second case no change of any word is; in the third
-// one word follows no list.
+// The first word of the list is even, so that none of its changes is odd; in the second case no
+// change of any word is; in the third one word follows no list.
 #[test]
 fn words_change_by_multiples_of_one_list(rt: HostRuntime) -> Result<(), Fail> {
     for w in 6..=10 {

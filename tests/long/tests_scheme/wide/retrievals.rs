@@ -1,4 +1,5 @@
-//! Records of wide layouts by both schemes: more columns than an ordinary layout has, and more rows.
+//! Records of wide layouts by both schemes: more columns than an ordinary layout has, and more
+//! rows.
 
 use super::*;
 use digit_pack::digits_of_records;
@@ -9,7 +10,8 @@ use std::alloc::Global;
 
 const SEED: [u8; 32] = [0; 32];
 
-// The digits of a layout's records, and what both sides make of them: the public matrices and the first hint.
+// The digits of a layout's records, and what both sides make of them: the public matrices and the
+// first hint.
 #[derive(Drop)]
 struct Made {
     layout: Layout,
@@ -113,7 +115,8 @@ fn retrieves<K: Kernel>(
     Ok(())
 }
 
-// The noise of these seeds stays small, though at 8 and 9 bits no layout of 5,000 columns or rows is certain.
+// The noise of these seeds stays small, though at 8 and 9 bits no layout of 5,000 columns or rows
+// is certain.
 #[test]
 fn records_of_five_thousand_columns(rt: HostRuntime) -> Result<(), Fail> {
     retrieves(&rt, Plain, 129, (8, 1, 1, 5000))?;

@@ -4,7 +4,8 @@
 
 use super::*;
 
-/// The word that a server of [`TWO_RECORDS`] answers to a query's frame: the digits 10 and 200 times its words.
+/// The word that a server of [`TWO_RECORDS`] answers to a query's frame: the digits 10 and 200
+/// times its words.
 fn answered_word(rt: &(impl Abort + AllocGlobal), sent: &[u8]) -> Result<u32, Fail> {
     let mut frames = Vec::new(rt.alloc());
     Reader::new(rt.alloc()).feed(false, sent, &mut frames)?;

@@ -1,5 +1,5 @@
-//! Hints of wide stores that are moved by the records that changed. The words of hints are those that a model in another
-//! language makes of the records from scratch.
+//! Hints of wide stores that are moved by the records that changed. The words of hints are those
+//! that a model in another language makes of the records from scratch.
 
 use super::*;
 
@@ -110,8 +110,8 @@ fn wide_guest<K: Kernel>(
     Ok(client)
 }
 
-/// A client of a wide store that holds the hint of version 1, which has these words, and has asked for the records
-/// changed since.
+/// A client of a wide store that holds the hint of version 1, which has these words, and has asked
+/// for the records changed since.
 fn asking<K: Kernel>(
     rt: &(impl Abort + AllocGlobal),
     store: Store,

@@ -23,7 +23,8 @@ const LONG_COLUMN: Store = Store {
 /// The frame that asks for the rows changed since version 1.
 const ASKING: [u8; 13] = [8, 0, 0, 0, 4, 1, 0, 0, 0, 0, 0, 0, 0];
 
-/// A Delta of these numbers of its head, each below 256, and of these numbers and words of its rows.
+/// A Delta of these numbers of its head, each below 256, and of these numbers and words of its
+/// rows.
 fn delta(
     rt: &(impl Abort + AllocGlobal),
     since: u8,
@@ -46,7 +47,8 @@ fn delta(
     Ok(frame)
 }
 
-/// A client that holds the hint of version 1, whose words are all 0, and has asked for the rows changed since.
+/// A client that holds the hint of version 1, whose words are all 0, and has asked for the rows
+/// changed since.
 fn asking<K: Kernel>(
     rt: &(impl Abort + AllocGlobal),
     store: Store,

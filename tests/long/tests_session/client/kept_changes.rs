@@ -1,5 +1,6 @@
-//! Rows of single records that are moved by a file of changes: beside hints that a model in another language makes from scratch, and
-//! beside those of a store; files that are cut or damaged at each byte, or of no use; and replies of all kinds to an ask.
+//! Rows of single records that are moved by a file of changes: beside hints that a model in another
+//! language makes from scratch, and beside those of a store; files that are cut or damaged at each
+//! byte, or of no use; and replies of all kinds to an ask.
 
 use super::changes::{CHANGED, HINT, MOVED};
 use change_file::{Block, block_bytes, end_in, head_bytes};
@@ -295,7 +296,8 @@ fn hint_of<K: Kernel>(alloc: Global, store: &Store<K>) -> Result<Vec<u32>, Alloc
         .to_vec(alloc)
 }
 
-// A folder's file of changes is appended to at each version, or now and then: the rows of each record are those of the store's hint.
+// A folder's file of changes is appended to at each version, or now and then: the rows of each
+// record are those of the store's hint.
 fn follows_a_store<K: Kernel>(
     rt: &(impl Abort + AllocGlobal),
     kernel: K,

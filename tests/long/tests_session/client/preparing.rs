@@ -90,7 +90,8 @@ fn fetches_double<K: Kernel>(
     feeds(rt, client, frame.as_slice(), "synced double 1 ")
 }
 
-// Asks by DoublePIR for one record more than was prepared. What is prepared then serves one ask of each scheme.
+// Asks by DoublePIR for one record more than was prepared. What is prepared then serves one ask of
+// each scheme.
 fn asks_by_both_schemes<K: Kernel>(
     rt: &(impl Abort + AllocGlobal),
     kernel: K,
@@ -116,7 +117,8 @@ fn prepared_asks_of_double_send_the_same(rt: HostRuntime) -> Result<(), Fail> {
     asks_by_both_schemes(&rt, Lanes)
 }
 
-// Two clients that are let in prepare before they have a hint, one of them after it has left numbers alone.
+// Two clients that are let in prepare before they have a hint, one of them after it has left
+// numbers alone.
 fn prepares_without_a_hint<K: Kernel>(
     rt: &(impl Abort + AllocGlobal),
     kernel: K,

@@ -33,7 +33,8 @@ fn takes_hint<K: Kernel>(
     feeds(rt, client, frame.as_slice(), &wanted)
 }
 
-/// Asks for what has changed in the hint since version 1, and for the parts of version 2, since it isn't known.
+/// Asks for what has changed in the hint since version 1, and for the parts of version 2, since it
+/// isn't known.
 fn moves_hint<K: Kernel>(
     rt: &(impl Abort + AllocGlobal),
     shapes: &mut String,

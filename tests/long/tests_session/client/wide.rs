@@ -1,4 +1,5 @@
-//! Clients of wide stores and of ordinary ones: how each greets, which Welcome each takes, and which sizes a wide one takes.
+//! Clients of wide stores and of ordinary ones: how each greets, which Welcome each takes, and
+//! which sizes a wide one takes.
 
 use super::*;
 use frame_codec::Bytes;
@@ -94,7 +95,8 @@ fn sizes_on<K: Kernel>(rt: &(impl Abort + AllocGlobal), kernel: K) -> Result<(),
         greeted(rt, true, most, "welcomed 1 ", kernel)?;
         greeted(rt, true, more, "BadWelcome ", kernel)?;
     }
-    // records of one byte are no slots, and an ordinary client knows no more columns or rows than before
+    // records of one byte are no slots, and an ordinary client knows no more columns or rows than
+    // before
     greeted(rt, true, Store { profile: 130, ..WIDE }, "BadWelcome ", kernel)?;
     for profile in [1, 2] {
         let slots = Store {
@@ -114,7 +116,8 @@ fn wide_welcomes_at_their_limits(rt: HostRuntime) -> Result<(), Fail> {
     sizes_on(&rt, Lanes)
 }
 
-// A client that is refused for its profile greets with the other, in the same session; the numbers stay.
+// A client that is refused for its profile greets with the other, in the same session; the numbers
+// stay.
 fn speaks_the_other_on<K: Kernel>(
     rt: &(impl Abort + AllocGlobal),
     wide: bool,

@@ -11,7 +11,8 @@ use std::alloc::Global;
 use std::process::Abort;
 use std::test::Fail;
 
-// The two calls with which a client comes to a hint. They have no contract, so that what uses them carries no clause of the client.
+// The two calls with which a client comes to a hint. They have no contract, so that what uses them
+// carries no clause of the client.
 fn holds_a_hint(
     alloc: Global,
     client: &mut ClientCore<Plain>,

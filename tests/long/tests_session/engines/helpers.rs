@@ -47,7 +47,8 @@ impl Write for Output {
     }
 }
 
-// Fails at one call, the `fails_at`th counted from 0, and goes on at the next as if nothing had happened.
+// Fails at one call, the `fails_at`th counted from 0, and goes on at the next as if nothing had
+// happened.
 #[derive(Drop)]
 pub struct FailsOnce<T> {
     pub inner: T,

@@ -1,10 +1,12 @@
-//! Turns of connections over a device of memory: what is appended before what is sent, appends that fail, a publication to
-//! which memory is refused, one that is refused before, and who is expired. `rt try --test --fail-alloc N` refuses the Nth
-//! request for memory.
+//! Turns of connections over a device of memory: what is appended before what is sent, appends that
+//! fail, a publication to which memory is refused, one that is refused before, and who is expired.
+//! `rt try --test --fail-alloc N` refuses the Nth request for memory.
 
+use connection_turns::{
+    AppendFailed, ConnectionState, Fault, Outside, PIECE_LEN, SaveFailed, Served, Stop, turn,
+};
 use lane_kernels::Lanes;
 use server_core::ServerCore;
-use connection_turns::{AppendFailed, ConnectionState, Fault, Outside, PIECE_LEN, SaveFailed, Served, Stop, turn};
 use std::alloc::{AllocError, Global};
 use std::process::Abort;
 use std::test::Fail;
@@ -127,7 +129,8 @@ fn server(alloc: Global) -> Result<ServerCore<Lanes>, Fail> {
     Ok(ServerCore::new(alloc, Store::open(alloc, Lanes, snapshot)?))
 }
 
-// Turns of a new connection one after another, until one ends early or all are made: whether one did.
+// Turns of a new connection one after another, until one ends early or all are made: whether one
+// did.
 fn take_turns(
     alloc: Global,
     id: u64,
@@ -240,7 +243,10 @@ fn compare(rt: &impl Abort, core: &ServerCore<Lanes>, device: &Device<'_>) {
     assert_eq!(rt; device.saved, version);
     let made = device.appended.wrapping_sub(device.taken_back);
     assert_eq!(rt; u64::from(made) + 1, version);
-    assert_eq!(rt; device.output.ends_with(DONE_2), version == 2 && !device.output.is_empty());
+    assert_eq!(rt;
+        device.output.ends_with(DONE_2),
+        version == 2 && !device.output.is_empty()
+    );
 }
 
 #[test]
@@ -290,7 +296,10 @@ fn who_makes_no_progress_is_expired(rt: HostRuntime) -> Result<(), Fail> {
     let mut device = Device::new(alloc, &GREETING[..4], 1, 1)?;
     let mut buffer = Vec::from_elem(alloc, 0u8, PIECE_LEN)?;
     for now in 0..20 {
-        assert_eq!(&rt; turn(&mut state, &mut core, &mut device, 7, now, &mut buffer), Ok(Served::Done));
+        assert_eq!(&rt;
+            turn(&mut state, &mut core, &mut device, 7, now, &mut buffer),
+            Ok(Served::Done)
+        );
     }
     // Four bytes came since its opening, and no frame.
     assert!(&rt; !state.is_expired(9, 10));

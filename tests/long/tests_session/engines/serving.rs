@@ -3,7 +3,8 @@
 use super::helpers::*;
 use super::*;
 
-// Serves the parts as session 0, whole and a few bytes at a time, and compares what was said and how it ended.
+// Serves the parts as session 0, whole and a few bytes at a time, and compares what was said and
+// how it ended.
 fn check<K: Kernel>(
     rt: &impl Abort,
     alloc: Global,
@@ -222,7 +223,8 @@ fn a_writer_that_fails_stops_before_the_next_frame_on<K: Kernel>(
         assert_eq!(rt; result, Err(ServeFault::Write), "{room}");
         assert_eq!(rt; Some(writer.bytes.as_slice()), said.get(..room), "{room}");
         assert_eq!(rt; server.has_session(7), false, "{room}");
-        // The edit is looked at once the Welcome is written, and accepted whatever becomes of its Done.
+        // The edit is looked at once the Welcome is written, and accepted whatever becomes of its
+        // Done.
         let welcomed = room >= WELCOME.len() + ZEROS.len();
         assert_eq!(rt; publish(&mut server).is_ok(), welcomed, "{room}");
     }

@@ -5,8 +5,9 @@ use super::*;
 use client_core::Event;
 use connection_io::{Connection, ReadFailed, WriteFailed};
 
-// A peer that says its bytes in parts, up to each cut, the first part at once and each other only once it has
-// received all that is owed before it. It fails at a read before that, and at one after its last part.
+// A peer that says its bytes in parts, up to each cut, the first part at once and each other only
+// once it has received all that is owed before it. It fails at a read before that, and at one after
+// its last part.
 #[derive(Drop)]
 struct Peer<'a> {
     says: &'a [u8],

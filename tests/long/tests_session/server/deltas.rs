@@ -29,8 +29,8 @@ const NO_ROWS_2: &[u8] = &[
 
 const NO_DELTA: &[u8] = &[0x0c, 0, 0, 0, 0x88, 2, 0, 0, 0, 0, 0, 0, 0, 2, 0, 0, 0];
 
-// The publisher asks before its greeting, before its publication and after it; a Delta is no frame for a
-// server.
+// The publisher asks before its greeting, before its publication and after it; a Delta is no frame
+// for a server.
 const DELTAS: Dialogue = &[
     (&[ASK_1], &[REFUSED, &[2]]),
     (&[GREETING, ONES], &[WELCOME, ZEROS]),

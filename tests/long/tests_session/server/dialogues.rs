@@ -294,7 +294,8 @@ fn the_last_version_is_served_and_not_followed_on<K: Kernel>(
     Ok(())
 }
 
-// Sessions with a payload that is too long, a kind that there is not, and a question that lacks a byte.
+// Sessions with a payload that is too long, a kind that there is not, and a question that lacks a
+// byte.
 const FAULTS: &[(u64, &[u8])] = &[
     (1, &[1, 0, 0, 1]),
     (2, &[0, 0, 0, 0, 0x7f]),
@@ -465,7 +466,8 @@ fn a_thousand_sessions_are_opened_and_left_on<K: Kernel>(
     Ok(())
 }
 
-// An empty piece says nothing, wherever it comes, and is no fault: between frames, within one, and after a Bye.
+// An empty piece says nothing, wherever it comes, and is no fault: between frames, within one, and
+// after a Bye.
 const EMPTY_PIECES: Dialogue = &[
     (&[], &[]),
     (&[GREETING], &[]),

@@ -44,7 +44,8 @@ const DELTA: &[u8] = &[
     0, 0xdc, 0xcb, 0x3f, 0xf6,
 ];
 
-// Each refusal in its order; then a record that no reader sees before it is published, and that every frame goes by after.
+// Each refusal in its order; then a record that no reader sees before it is published, and that
+// every frame goes by after.
 const APPENDS: Dialogue = &[
     (&[APPEND], &[REFUSED, &[2]]),
     (&[GREETING, ZEROS], &[WELCOME, ZEROS]),
@@ -72,8 +73,16 @@ const APPENDS: Dialogue = &[
 
 #[test]
 fn a_record_is_appended(rt: HostRuntime) -> Result<(), Fail> {
-    a_record_is_appended_on(&rt, rt.alloc(), &mut server(rt.alloc(), Plain, &RECORDS, 1)?)?;
-    a_record_is_appended_on(&rt, rt.alloc(), &mut server(rt.alloc(), Lanes, &RECORDS, 1)?)
+    a_record_is_appended_on(
+        &rt,
+        rt.alloc(),
+        &mut server(rt.alloc(), Plain, &RECORDS, 1)?,
+    )?;
+    a_record_is_appended_on(
+        &rt,
+        rt.alloc(),
+        &mut server(rt.alloc(), Lanes, &RECORDS, 1)?,
+    )
 }
 
 fn a_record_is_appended_on<K: Kernel>(
@@ -130,11 +139,7 @@ const FULL: Dialogue = &[
 ];
 
 // A server of so many records of one byte, let in as the publisher.
-fn large_server<K: Kernel>(
-    alloc: Global,
-    kernel: K,
-    count: usize,
-) -> Result<ServerCore<K>, Fail> {
+fn large_server<K: Kernel>(alloc: Global, kernel: K, count: usize) -> Result<ServerCore<K>, Fail> {
     let mut server = server(alloc, kernel, &vec![in alloc; 0u8; count]?, 1)?;
     let mut out = Vec::new(alloc);
     feed(&mut server, 0, &joined(alloc, &[GREETING, ONES])?, &mut out)?;
@@ -175,8 +180,16 @@ fn append<K: Kernel>(server: &mut ServerCore<K>, bytes: &[u8]) -> Result<(), App
 
 #[test]
 fn the_server_appends_to_its_store(rt: HostRuntime) -> Result<(), Fail> {
-    the_server_appends_to_its_store_on(&rt, rt.alloc(), &mut server(rt.alloc(), Plain, &RECORDS, 1)?)?;
-    the_server_appends_to_its_store_on(&rt, rt.alloc(), &mut server(rt.alloc(), Lanes, &RECORDS, 1)?)
+    the_server_appends_to_its_store_on(
+        &rt,
+        rt.alloc(),
+        &mut server(rt.alloc(), Plain, &RECORDS, 1)?,
+    )?;
+    the_server_appends_to_its_store_on(
+        &rt,
+        rt.alloc(),
+        &mut server(rt.alloc(), Lanes, &RECORDS, 1)?,
+    )
 }
 
 fn the_server_appends_to_its_store_on<K: Kernel>(

@@ -20,7 +20,8 @@ fn a_piece_of_no_session_may_be_fed(rt: HostRuntime) -> Result<(), Fail> {
     Ok(())
 }
 
-// A short query, a refused one, one of another scheme, an edit and a publication: each may be fed at once, and asking twice is as asking once.
+// A short query, a refused one, one of another scheme, an edit and a publication: each may be fed
+// at once, and asking twice is as asking once.
 #[test]
 fn short_frames_may_be_fed(rt: HostRuntime) -> Result<(), Fail> {
     short_frames_may_be_fed_on(&rt, rt.alloc(), Plain)?;

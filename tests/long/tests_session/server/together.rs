@@ -1,4 +1,5 @@
-//! Long answers by SimplePIR to several sessions: begun together, and each the one that is made at once.
+//! Long answers by SimplePIR to several sessions: begun together, and each the one that is made at
+//! once.
 
 use super::dialogues::PUBLISH;
 use super::*;
@@ -57,7 +58,8 @@ fn is_answer(reply: &[u8]) -> bool {
     reply.len() == 5 + 9 + 4 * 4_096 && reply[4] == 0x85
 }
 
-// Gives each session a turn until all have asked and were answered; one that is closed has no more turns.
+// Gives each session a turn until all have asked and were answered; one that is closed has no more
+// turns.
 fn rounds<K: Kernel>(
     rt: &impl Abort,
     alloc: Global,

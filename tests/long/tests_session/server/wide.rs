@@ -1,4 +1,5 @@
-//! Sessions of wide stores: who is let in by which store, and what a store of 5,000 columns answers.
+//! Sessions of wide stores: who is let in by which store, and what a store of 5,000 columns
+//! answers.
 
 use super::*;
 
@@ -47,8 +48,8 @@ const ONES: &[u8] = &[1; 32];
 /// Each form, and the profiles that its store accepts.
 const ACCEPTED: [(u8, &[u16]); 4] = [(1, &[1, 2]), (2, &[2]), (129, &[129, 130]), (130, &[130])];
 
-// Each greeting leaves the session as it was where it is refused, so that one session takes all of them. A profile
-// that is not accepted is refused for it, whatever the key is.
+// Each greeting leaves the session as it was where it is refused, so that one session takes all of
+// them. A profile that is not accepted is refused for it, whatever the key is.
 fn greets_each_store_on<K: Kernel>(rt: &impl Abort, alloc: Global, kernel: K) -> Result<(), Fail> {
     for (form, accepted) in ACCEPTED {
         let mut server = two_of_form(alloc, kernel, form)?;
@@ -73,7 +74,8 @@ fn each_profile_against_each_form(rt: HostRuntime) -> Result<(), Fail> {
     greets_each_store_on(&rt, rt.alloc(), Lanes)
 }
 
-// A server of so many records of form 129, one to a column: record i is the byte i modulo 251. Its publisher is let in.
+// A server of so many records of form 129, one to a column: record i is the byte i modulo 251. Its
+// publisher is let in.
 fn large_server<K: Kernel>(alloc: Global, kernel: K, count: u32) -> Result<ServerCore<K>, Fail> {
     let mut records = Vec::new(alloc);
     for i in 0..count {
@@ -136,8 +138,8 @@ const REFUSED_LENGTH: &[u8] = &[1, 0, 0, 0, 0x8f, 11];
 
 const REFUSED_FULL: &[u8] = &[1, 0, 0, 0, 0x8f, 14];
 
-// Record 4,999, which is the byte 4999 modulo 251, is alone in the last column. Then one column more is published, and the
-// old query is stale.
+// Record 4,999, which is the byte 4999 modulo 251, is alone in the last column. Then one column
+// more is published, and the old query is stale.
 fn a_column_more_on<K: Kernel>(rt: &impl Abort, alloc: Global, kernel: K) -> Result<(), Fail> {
     let mut server = large_server(alloc, kernel, 5000)?;
     let first = query(alloc, 1, 5000)?;

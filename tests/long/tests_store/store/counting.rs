@@ -43,8 +43,8 @@ impl Kernel for Counting<'_> {
     }
 }
 
-// 64 records of one byte, 8 to a column, and secrets of one word: each digit is a row's, and each word of the first
-// hint has four digits in the hints of DoublePIR.
+// 64 records of one byte, 8 to a column, and secrets of one word: each digit is a row's, and each
+// word of the first hint has four digits in the hints of DoublePIR.
 fn neighbours<'a>(alloc: Global, kernel: Counting<'a>) -> Result<Store<Counting<'a>>, Fail> {
     let header = Header {
         groups: 8,
@@ -56,8 +56,9 @@ fn neighbours<'a>(alloc: Global, kernel: Counting<'a>) -> Result<Store<Counting<
     Ok(store)
 }
 
-// 16 records of one byte in one column, the fewest of which whole words are taken, and secrets of 32 words: each word of the
-// first hint has four digits, so that the hints of DoublePIR have 128 rows.
+// 16 records of one byte in one column, the fewest of which whole words are taken, and secrets of
+// 32 words: each word of the first hint has four digits, so that the hints of DoublePIR have 128
+// rows.
 fn one_column<'a>(alloc: Global, kernel: Counting<'a>) -> Result<Store<Counting<'a>>, Fail> {
     let header = Header {
         groups: 16,
@@ -70,8 +71,9 @@ fn one_column<'a>(alloc: Global, kernel: Counting<'a>) -> Result<Store<Counting<
     Ok(store)
 }
 
-// One digit changes: one word of the first hint, and the four digits of this word, of which none stays. A
-// publication that makes a hint by `setup` multiplies 64 words for the first or 32 for the client's, and fails here.
+// One digit changes: one word of the first hint, and the four digits of this word, of which none
+// stays. A publication that makes a hint by `setup` multiplies 64 words for the first or 32 for the
+// client's, and fails here.
 #[test]
 fn one_edit_multiplies_five_words(rt: HostRuntime) -> Result<(), Fail> {
     let products = Cell::new(0);
@@ -87,8 +89,8 @@ fn one_edit_multiplies_five_words(rt: HostRuntime) -> Result<(), Fail> {
     Ok(())
 }
 
-// Three digits of as many rows: each of their four digits is taken for all rows at once. The record between that is
-// edited to the byte it has is not taken.
+// Three digits of as many rows: each of their four digits is taken for all rows at once. The record
+// between that is edited to the byte it has is not taken.
 #[test]
 fn rows_that_stay_are_not_multiplied(rt: HostRuntime) -> Result<(), Fail> {
     let products = Cell::new(0);
@@ -121,8 +123,9 @@ fn equal_bytes_multiply_nothing(rt: HostRuntime) -> Result<(), Fail> {
     Ok(())
 }
 
-// The new column's one digit is the first that its row gets there: one word of the first hint, and the four digits of this
-// word. A publication that makes a hint anew for nine columns multiplies 72 words for the first or 32 for the client's.
+// The new column's one digit is the first that its row gets there: one word of the first hint, and
+// the four digits of this word. A publication that makes a hint anew for nine columns multiplies 72
+// words for the first or 32 for the client's.
 #[test]
 fn an_append_with_a_new_column_multiplies_five_words(rt: HostRuntime) -> Result<(), Fail> {
     let products = Cell::new(0);
@@ -137,10 +140,11 @@ fn an_append_with_a_new_column_multiplies_five_words(rt: HostRuntime) -> Result<
     Ok(())
 }
 
-// Each row of the first hint takes 32 products. In the client's, 128 digits that are each multiplied would take 16 * 32 of them:
-// 65,536 products. Of whole words, all of which follow one list, the 96 higher digits are multiplied and added, and the list's product
-// is made once; each of the 32 lowest digits takes those of its word and that one. A word, and the first one of each 8 once more,
-// is tested before: its digits and the list, for each row.
+// Each row of the first hint takes 32 products. In the client's, 128 digits that are each
+// multiplied would take 16 * 32 of them: 65,536 products. Of whole words, all of which follow one
+// list, the 96 higher digits are multiplied and added, and the list's product is made once; each of
+// the 32 lowest digits takes those of its word and that one. A word, and the first one of each 8
+// once more, is tested before: its digits and the list, for each row.
 #[test]
 fn rows_of_a_column_are_taken_together(rt: HostRuntime) -> Result<(), Fail> {
     let products = Cell::new(0);

@@ -1,4 +1,5 @@
-//! A draft that is dropped: the store is as if nothing had been edited or appended since the last publication.
+//! A draft that is dropped: the store is as if nothing had been edited or appended since the last
+//! publication.
 
 use super::refused_memory::holds_the_same;
 use super::*;

@@ -1,10 +1,12 @@
-//! Records that are appended: the version after is, word by word, that of a store which was opened with them.
+//! Records that are appended: the version after is, word by word, that of a store which was opened
+//! with them.
 
 use super::deltas::gives;
 use super::refused_memory::holds_the_same;
 use super::*;
 
-// A store of these bytes, one record each, so many to a column; in form 2 they are those of slots of three bytes.
+// A store of these bytes, one record each, so many to a column; in form 2 they are those of slots
+// of three bytes.
 fn store_of<K: Kernel>(
     alloc: Global,
     kernel: K,
@@ -113,7 +115,8 @@ fn a_draft_is_full_at_its_layouts_limit(rt: HostRuntime) -> Result<(), Fail> {
     Ok(())
 }
 
-// Appends records one by one, each with a publication: after each the store is that of all bytes so far.
+// Appends records one by one, each with a publication: after each the store is that of all bytes so
+// far.
 fn grows<K: Kernel>(
     rt: &impl Abort,
     alloc: Global,

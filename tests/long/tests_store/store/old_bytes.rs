@@ -4,8 +4,8 @@ use super::*;
 use hint_changes::{PublicRow, are_entries, move_by_entries};
 use matrix_u32::Matrix;
 
-// A store of so many records of one byte, record i of which is byte i. Their hint has `dimension` words, an eighth of whose bytes is
-// half as many.
+// A store of so many records of one byte, record i of which is byte i. Their hint has `dimension`
+// words, an eighth of whose bytes is half as many.
 fn store_of<K: Kernel>(
     alloc: Global,
     kernel: K,
@@ -43,11 +43,16 @@ fn publish_often<K: Kernel>(store: &mut Store<K>, count: u8) -> Result<(), Fail>
     Ok(())
 }
 
-fn changes<K: Kernel>(store: &Store<K>, version: u64, most: usize) -> Result<Option<Vec<u8>>, Fail> {
+fn changes<K: Kernel>(
+    store: &Store<K>,
+    version: u64,
+    most: usize,
+) -> Result<Option<Vec<u8>>, Fail> {
     Ok(store.changes_since(version, most)?)
 }
 
-// Since a version these records differ: their places, the bytes that they had, and those that they have.
+// Since a version these records differ: their places, the bytes that they had, and those that they
+// have.
 fn differ<K: Kernel>(
     rt: &(impl Abort + AllocGlobal),
     store: &Store<K>,
@@ -168,8 +173,18 @@ fn appended_records_were_blanks(rt: HostRuntime) -> Result<(), Fail> {
     append(&mut store, &[80])?;
     edit(&mut store, 8, &[81])?;
     publish_all(&mut store, &[(5, 51), (6, 61), (1, 11)])?;
-    differ(&rt, &store, 1, &[(1, 1, 11), (5, 0, 51), (6, 0, 61), (7, 0, 70), (8, 0, 81)])?;
-    differ(&rt, &store, 2, &[(1, 1, 11), (5, 50, 51), (6, 0, 61), (8, 0, 81)])?;
+    differ(
+        &rt,
+        &store,
+        1,
+        &[(1, 1, 11), (5, 0, 51), (6, 0, 61), (7, 0, 70), (8, 0, 81)],
+    )?;
+    differ(
+        &rt,
+        &store,
+        2,
+        &[(1, 1, 11), (5, 50, 51), (6, 0, 61), (8, 0, 81)],
+    )?;
     differ(&rt, &store, 3, &[])
 }
 
@@ -207,7 +222,10 @@ fn no_more_entries_than_are_asked_for(rt: HostRuntime) -> Result<(), Fail> {
     publish_all(&mut store, &[(4, 40)])?;
     for (version, size) in [(1, 12), (2, 6), (3, 0)] {
         for most in 0..size {
-            assert!(&rt; changes(&store, version, most)?.is_none(), "{version} {most}");
+            assert!(&rt;
+                changes(&store, version, most)?.is_none(),
+                "{version} {most}"
+            );
         }
         for most in [size, size + 1, usize::MAX] {
             match changes(&store, version, most)? {
@@ -242,10 +260,7 @@ fn an_eighth_of_the_hint_is_kept(rt: HostRuntime) -> Result<(), Fail> {
 }
 
 // The words of the first hint.
-fn hint_of<K: Kernel>(
-    rt: &(impl Abort + AllocGlobal),
-    store: &Store<K>,
-) -> Result<Vec<u32>, Fail> {
+fn hint_of<K: Kernel>(rt: &(impl Abort + AllocGlobal), store: &Store<K>) -> Result<Vec<u32>, Fail> {
     match hint_words(store, Scheme::Simple) {
         Some(words) => Ok(words.to_vec(rt.alloc())?),
         None => panic!(rt; "there is no hint"),

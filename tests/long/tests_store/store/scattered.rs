@@ -1,5 +1,5 @@
-//! A publication that changes more rows than are taken together, with others between them, and more rows of the client's hint
-//! than change together.
+//! A publication that changes more rows than are taken together, with others between them, and more
+//! rows of the client's hint than change together.
 
 use super::TWO_RECORDS;
 use lane_kernels::Lanes;

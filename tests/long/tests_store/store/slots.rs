@@ -36,7 +36,8 @@ fn rows_since<K: Kernel>(store: &Store<K>, version: u64) -> Result<Option<Vec<u3
     Ok(rows)
 }
 
-// Record 1 has no bytes from version 2 on: its length changes, and its byte, and not the byte between.
+// Record 1 has no bytes from version 2 on: its length changes, and its byte, and not the byte
+// between.
 fn has_records_of_their_lengths<K: Kernel>(
     rt: &impl Abort,
     store: &mut Store<K>,

@@ -89,7 +89,8 @@ fn an_answer_that_was_begun(rt: HostRuntime) -> Result<(), Fail> {
     kept_for_its_query(&rt, Lanes, Scheme::Double, &[3, 5, 7], &[3, 5, 8])
 }
 
-// The answers to several queries that are begun together, of which the fifth is left out, are those that are made at once, in any order.
+// The answers to several queries that are begun together, of which the fifth is left out, are those
+// that are made at once, in any order.
 fn together_as_at_once<K: Kernel>(
     rt: &(impl Abort + AllocGlobal),
     kernel: K,

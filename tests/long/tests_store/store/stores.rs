@@ -1,4 +1,5 @@
-//! What a store reports, which edits and snapshots it refuses, and hints that follow edits across columns.
+//! What a store reports, which edits and snapshots it refuses, and hints that follow edits across
+//! columns.
 
 use super::refused_memory::seven_records;
 use super::*;

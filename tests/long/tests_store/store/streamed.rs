@@ -1,4 +1,5 @@
-//! Wide snapshots read as a stream: each fault, the store that is opened, and records changed before it is.
+//! Wide snapshots read as a stream: each fault, the store that is opened, and records changed
+//! before it is.
 
 use super::refused_memory::holds_the_same;
 use super::*;
@@ -122,7 +123,8 @@ fn bytes_after_a_streamed_file(rt: HostRuntime) -> Result<(), Fail> {
     Ok(())
 }
 
-// A record that is no slot is a fault of the whole file, whichever it is; a byte after it, or another digest, comes first.
+// A record that is no slot is a fault of the whole file, whichever it is; a byte after it, or
+// another digest, comes first.
 #[test]
 fn a_streamed_file_with_a_bad_slot(rt: HostRuntime) -> Result<(), Fail> {
     for i in 0..5 {
@@ -152,8 +154,9 @@ fn written_again(alloc: Global, opening: &Opening) -> Result<Vec<u8>, Fail> {
     Ok(file)
 }
 
-// In each form, by counts that fill their last column and that don't, that fill the 48 columns which are written together, and one more or
-// less; the last has more records than a buffer of 64 KiB.
+// In each form, by counts that fill their last column and that don't, that fill the 48 columns
+// which are written together, and one more or less; the last has more records than a buffer of 64
+// KiB.
 #[test]
 fn a_streamed_store_is_that_of_its_snapshot(rt: HostRuntime) -> Result<(), Fail> {
     for form in [1, 2, 129, 130] {
@@ -240,7 +243,8 @@ impl HintWatcher for Seen {
     }
 }
 
-// 300 groups of 3 digits are 900 rows, 64 of which are made at a time; the hint of DoublePIR has four.
+// 300 groups of 3 digits are 900 rows, 64 of which are made at a time; the hint of DoublePIR has
+// four.
 #[test]
 fn hints_are_seen_while_they_are_made(rt: HostRuntime) -> Result<(), Fail> {
     for form in [1, 129] {

@@ -1,4 +1,5 @@
-//! Wide stores: more columns and more rows than an ordinary store has, edited, grown and published, and what they refuse.
+//! Wide stores: more columns and more rows than an ordinary store has, edited, grown and published,
+//! and what they refuse.
 
 use super::deltas::gives;
 use super::refused_memory::holds_the_same;
@@ -140,8 +141,8 @@ fn answers_the_last_column<K: Kernel>(
     Ok(())
 }
 
-// An edit in the last column; then an append that fills it, and one that begins a column. After each publication
-// the store is that of all records, opened at once.
+// An edit in the last column; then an append that fills it, and one that begins a column. After
+// each publication the store is that of all records, opened at once.
 fn grows_across_a_column_on<K: Kernel>(
     rt: &impl Abort,
     alloc: Global,

@@ -31,8 +31,8 @@ fn an_answer_is_of_the_current_version(rt: HostRuntime) -> Result<(), Fail> {
     answers_the_current_version(&rt, &two_records(rt.alloc(), Lanes, 1)?)
 }
 
-// 12 words: the digits of 3355450020 times the second public matrix; the digits of the hint times 44; and the
-// digits of 3355450020 times 44.
+// 12 words: the digits of 3355450020 times the second public matrix; the digits of the hint times
+// 44; and the digits of 3355450020 times 44.
 fn answers_double<K: Kernel>(rt: &impl Abort, store: &Store<K>) -> Result<(), Fail> {
     let words = [22, 16777249, 44];
     assert_eq!(rt; store.query_words(Scheme::Double), words.len());

@@ -204,7 +204,11 @@ const SLOTS: &[(&str, &str, &str)] = &[
     ("8 0 1 1", "record -\n", "line 3: bad\n"),
     ("8 1 1 1", "record 00\n", "line 3: bad\n"),
     ("8 257 1 1", "record -\n", "world: refused BadLayout\n"),
-    ("8 65535 1 1", "record -\nrecord 0a\n", "world: refused BadLayout\n"),
+    (
+        "8 65535 1 1",
+        "record -\nrecord 0a\n",
+        "world: refused BadLayout\n",
+    ),
     ("5 3 1 1", "record -\n", "world: refused BadLayout\n"),
     ("8 3 1 0", "record -\n", "world: refused BadLayout\n"),
 ];

@@ -6,13 +6,19 @@ const SEED: &str = "seed 0000000000000000000000000000000000000000000000000000000
 
 const CLIENT: &str = "client 1111111111111111111111111111111111111111111111111111111111111111\n";
 
-// A wide world's clients and server go the stored run's way, in other frames: what is printed is the same.
+// A wide world's clients and server go the stored run's way, in other frames: what is printed is
+// the same.
 #[test]
 fn the_stored_run_in_a_wide_world(rt: HostRuntime) -> Result<(), Fail> {
     let Some(run) = RUN.strip_prefix("world 8 1 1 2\n") else {
         panic!(rt; "the run has another header");
     };
-    for header in ["wide 8 1 1 64", "wide2 8 3 1 64", "wide 9 1 1 64", "wide2 6 3 2 64"] {
+    for header in [
+        "wide 8 1 1 64",
+        "wide2 8 3 1 64",
+        "wide 9 1 1 64",
+        "wide2 6 3 2 64",
+    ] {
         let script = format!(in rt.alloc(); "{header}\n{run}")?;
         check(&rt, rt.alloc(), &script, REPORTED, 0)?;
     }
@@ -60,8 +66,9 @@ fn worlds_at_their_limits(rt: HostRuntime) -> Result<(), Fail> {
 fn the_parts_of_a_query_have_their_limit(rt: HostRuntime) -> Result<(), Fail> {
     let record = "0a".repeat(rt.alloc(), 256)?;
     for (groups, reported, status) in [(63, "", 0), (64, "world: refused BadLayout\n", 3)] {
-        let script =
-            format!(in rt.alloc(); "wide 8 256 {groups} 1\n{SEED}record {record}\n{CLIENT}")?;
+        let script = format!(in rt.alloc();
+            "wide 8 256 {groups} 1\n{SEED}record {record}\n{CLIENT}"
+        )?;
         check(&rt, rt.alloc(), &script, reported, status)?;
     }
     Ok(())
@@ -108,7 +115,9 @@ const EXCHANGE: &str = "to-server 0 all\nto-client 0 all\n";
 // Records of their own lengths: one gets no bytes, and one is appended.
 #[test]
 fn slots_of_a_wide_world(rt: HostRuntime) -> Result<(), Fail> {
-    let before = format!(in rt.alloc(); "hello 0\n{EXCHANGE}sync 0 double\n{EXCHANGE}ask 0 0\n{EXCHANGE}")?;
+    let before = format!(in rt.alloc();
+        "hello 0\n{EXCHANGE}sync 0 double\n{EXCHANGE}ask 0 0\n{EXCHANGE}"
+    )?;
     let changes = "edit 0 -\nedit 1 0102\nappend 05\npublish\nask 0 2\n";
     let stale = format!(in rt.alloc(); "ask 0 0\n{EXCHANGE}sync 0 simple\n{EXCHANGE}")?;
     let after = format!(in rt.alloc(); "ask 0 0\n{EXCHANGE}ask 0 2\n{EXCHANGE}")?;

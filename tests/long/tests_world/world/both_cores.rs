@@ -1,4 +1,5 @@
-//! Server and clients over the bytes between them: what the clients send is looked at frame by frame.
+//! Server and clients over the bytes between them: what the clients send is looked at frame by
+//! frame.
 
 use super::scripts::add_event;
 use super::*;
@@ -142,7 +143,8 @@ fn length_at(bytes: &[u8]) -> Option<usize> {
     Some(*a as usize + 256 * (*b as usize) + 65_536 * (*c as usize))
 }
 
-/// Reader 0 asks by SimplePIR, and its query is cut by a publication; reader 1 asks by DoublePIR. Both ask for `index`.
+/// Reader 0 asks by SimplePIR, and its query is cut by a publication; reader 1 asks by DoublePIR.
+/// Both ask for `index`.
 fn shapes_of_the_two<K: Kernel>(
     rt: &(impl Abort + AllocGlobal),
     index: u32,
@@ -194,7 +196,8 @@ fn frames_have_the_same_shapes_whatever_is_asked_for(rt: HostRuntime) -> Result<
     Ok(())
 }
 
-/// Brings a reader of 66 records, whose hint has two parts, to version 2. Version 2 comes after part 0 was served.
+/// Brings a reader of 66 records, whose hint has two parts, to version 2. Version 2 comes after
+/// part 0 was served.
 fn cut_between_parts<K: Kernel>(
     rt: &(impl Abort + AllocGlobal),
     server: &mut ServerCore<K>,

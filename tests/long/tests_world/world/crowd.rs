@@ -19,7 +19,8 @@ fn crowd<K: Kernel>(rt: &impl AllocGlobal, kernel: K) -> Result<World<K>, Fail> 
     Ok(World::new(rt.alloc(), kernel, snapshot(rt, TWO_RECORDS)?, seeds)?)
 }
 
-/// All say hello, before the first greeting comes to the server. They are welcomed from the last on.
+/// All say hello, before the first greeting comes to the server. They are welcomed from the last
+/// on.
 fn all_greet<K: Kernel>(world: &mut World<K>) -> Result<(), Fail> {
     for client in 0..CLIENTS {
         go(world, Step::Hello { client })?;

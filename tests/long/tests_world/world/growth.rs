@@ -22,7 +22,8 @@ fn grow<K: Kernel>(rt: &impl AllocGlobal, world: &mut World<K>, byte: u8) -> Res
     go(world, Step::Publish)
 }
 
-/// A query of the version before is stale though it has as many words as that version wants, and the new record is there.
+/// A query of the version before is stale though it has as many words as that version wants, and
+/// the new record is there.
 fn a_query_of_the_count_before<K: Kernel>(
     rt: &(impl Abort + AllocGlobal),
     world: &mut World<K>,
@@ -43,12 +44,34 @@ fn a_query_of_the_count_before<K: Kernel>(
 
 #[test]
 fn queries_of_the_count_before_are_stale(rt: HostRuntime) -> Result<(), Fail> {
-    let simple = "0 welcomed 1;0 simple 1;appended;version 2;0 stale 2;0 NotReady;0 simple 2;0 retrieved 2 2 5;0 BadIndex;";
-    let double = "0 welcomed 1;0 double 1;appended;version 2;0 stale 2;0 NotReady;0 double 2;0 retrieved 2 2 5;0 BadIndex;";
-    a_query_of_the_count_before(&rt, &mut world(&rt, Plain, TWO_RECORDS)?, Scheme::Simple, simple)?;
-    a_query_of_the_count_before(&rt, &mut world(&rt, Lanes, TWO_RECORDS)?, Scheme::Simple, simple)?;
-    a_query_of_the_count_before(&rt, &mut world(&rt, Plain, TWO_RECORDS)?, Scheme::Double, double)?;
-    a_query_of_the_count_before(&rt, &mut world(&rt, Lanes, TWO_RECORDS)?, Scheme::Double, double)
+    let simple =
+        "0 welcomed 1;0 simple 1;appended;version 2;0 stale 2;0 NotReady;0 simple 2;0 retrieved 2 2 5;0 BadIndex;";
+    let double =
+        "0 welcomed 1;0 double 1;appended;version 2;0 stale 2;0 NotReady;0 double 2;0 retrieved 2 2 5;0 BadIndex;";
+    a_query_of_the_count_before(
+        &rt,
+        &mut world(&rt, Plain, TWO_RECORDS)?,
+        Scheme::Simple,
+        simple,
+    )?;
+    a_query_of_the_count_before(
+        &rt,
+        &mut world(&rt, Lanes, TWO_RECORDS)?,
+        Scheme::Simple,
+        simple,
+    )?;
+    a_query_of_the_count_before(
+        &rt,
+        &mut world(&rt, Plain, TWO_RECORDS)?,
+        Scheme::Double,
+        double,
+    )?;
+    a_query_of_the_count_before(
+        &rt,
+        &mut world(&rt, Lanes, TWO_RECORDS)?,
+        Scheme::Double,
+        double,
+    )
 }
 
 /// Gets each record of version 4, whose bytes are these.
@@ -60,11 +83,14 @@ fn all_of_version_four<K: Kernel>(
     for (index, byte) in [0x0bu8, 0xc8, 5, 6, 7].iter().enumerate() {
         ask(world, client, index as u32)?;
         exchange(world, client)?;
-        assert!(rt; matches!(
+        assert!(rt;
+            matches!(
             world.outcomes().last(),
             Some(Outcome::Reported { event: Event::Retrieved { index: i, version: 4, bytes }, .. })
                 if *i == index as u32 && bytes.as_slice() == [*byte].as_slice()
-        ), "record {index}");
+        ),
+            "record {index}"
+        );
     }
     Ok(())
 }
@@ -126,11 +152,9 @@ fn a_growth_between_two_parts_of_a_hint(rt: HostRuntime) -> Result<(), Fail> {
     a_hint_cut_by_a_growth(&rt, &mut world(&rt, Lanes, header)?)
 }
 
-/// An append is refused for its length, and then for the room; one that was accepted may be edited before its publication.
-fn appends_are_refused<K: Kernel>(
-    rt: &(impl Abort + AllocGlobal),
-    kernel: K,
-) -> Result<(), Fail> {
+/// An append is refused for its length, and then for the room; one that was accepted may be edited
+/// before its publication.
+fn appends_are_refused<K: Kernel>(rt: &(impl Abort + AllocGlobal), kernel: K) -> Result<(), Fail> {
     let header = Header {
         count: 4095,
         ..TWO_RECORDS
@@ -145,18 +169,24 @@ fn appends_are_refused<K: Kernel>(
         reported(rt, &world)?.as_str(),
         "append BadLength;append BadLength;appended;append Full;append BadLength;edited 4095;version 2;"
     );
-    assert!(rt; matches!(
-        world.outcomes().get(3),
-        Some(Outcome::AppendRefused { fault: AppendError::Full })
-    ));
+    assert!(rt;
+        matches!(
+            world.outcomes().get(3),
+            Some(Outcome::AppendRefused {
+                fault: AppendError::Full
+            })
+        )
+    );
     greet_and_sync(&mut world, 0, Scheme::Simple)?;
     ask(&mut world, 0, 4095)?;
     exchange(&mut world, 0)?;
-    assert!(rt; matches!(
+    assert!(rt;
+        matches!(
         world.outcomes().last(),
         Some(Outcome::Reported { event: Event::Retrieved { index: 4095, version: 2, bytes }, .. })
             if bytes.as_slice() == [0x0cu8].as_slice()
-    ));
+    )
+    );
     Ok(())
 }
 

@@ -1,5 +1,5 @@
-//! Wide worlds: records in 5,000 columns and in 5,000 rows, in both forms and by both schemes, over edits, appends and
-//! publications.
+//! Wide worlds: records in 5,000 columns and in 5,000 rows, in both forms and by both schemes, over
+//! edits, appends and publications.
 
 use super::scripts::*;
 use super::*;
@@ -99,8 +99,8 @@ fn has_come<K: Kernel>(
     Ok(())
 }
 
-// Edits the last record, appends one, and publishes: `count` records become one more. A client of the version before gets
-// Stale, catches up, by what changed in SimplePIR, and gets both.
+// Edits the last record, appends one, and publishes: `count` records become one more. A client of
+// the version before gets Stale, catches up, by what changed in SimplePIR, and gets both.
 fn changes_and_grows<K: Kernel>(
     rt: &(impl Abort + AllocGlobal),
     kernel: K,
@@ -135,8 +135,8 @@ fn changes_and_grows<K: Kernel>(
     gets(rt, &mut world, 0, 0, 2, byte(0))
 }
 
-// One row of 5,000 columns, and then a column more; in slots three rows. The old bytes of two records have room in an eighth of a hint
-// of 64 words.
+// One row of 5,000 columns, and then a column more; in slots three rows. The old bytes of two
+// records have room in an eighth of a hint of 64 words.
 #[test]
 fn five_thousand_columns_and_one_more(rt: HostRuntime) -> Result<(), Fail> {
     let header = Header {
