@@ -1,9 +1,10 @@
 /*
  * usage: get HOST PORT SEED NUMBER simple|double INDEX ..
  *
- * Gets records from `pir_server serve` without the server learning which, and prints a line 'INDEX VERSION RECORD' for each,
- * the record in hex digits. SEED is 64 hex digits, the client's secret; NUMBER is the first retrieval number to spend, and no
- * number is ever spent twice under one seed: the last line, 'next NUMBER', says where to go on.
+ * Gets records of an ordinary store from `pir_server` without the server learning which, and prints a line
+ * 'INDEX VERSION RECORD' for each, the record in hex digits. SEED is 64 hex digits, the client's secret; NUMBER is the
+ * first retrieval number to spend, and no number is ever spent twice under one seed: the last line, 'next NUMBER', says
+ * where to go on.
  *
  * Build it once the library is installed (scripts/install), or with PKG_CONFIG_PATH=out/c, scripts/build_c's folder:
  *
@@ -73,7 +74,7 @@ static void send_waiting(vul_client *client, int fd)
     free(bytes);
 }
 
-/* Carries bytes to and fro until the outstanding call ends, and gives its event. */
+/* Carries bytes to and fro until the outstanding call ends, and returns its event. */
 static vul_event ended(vul_client *client, int fd)
 {
     static uint8_t piece[65536];

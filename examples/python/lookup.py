@@ -1,9 +1,10 @@
 #!/usr/bin/env python3
-"""A private look-up by name. Names and their values, of any lengths, are kept in buckets: record i holds all entries whose
+"""A private lookup by name. Names and their values, of any lengths, are kept in buckets: record i holds all entries whose
 name hashes to i. Who looks a name up gets its bucket, and the server learns neither name nor
 bucket.
 
-usage: lookup.py make FILE KEY BUCKETS ROOM < ENTRIES    ENTRIES has a line 'NAME VALUE' each; ROOM is a bucket's bytes
+usage: lookup.py make FILE KEY BUCKETS ROOM < ENTRIES    ENTRIES has a line 'NAME VALUE' each; ROOM is a bucket's
+                                                         bytes, 254 at most, and BUCKETS 4096 at most
        lookup.py get PORT HINTS NAME                     prints the value, or ends with status 1
        lookup.py put PORT HINTS KEY NAME VALUE           sets a value, and publishes
 

@@ -43,7 +43,7 @@ fn done(code: u32) -> Outcome<()> {
     (code == 0).then_some(()).ok_or(text.into())
 }
 
-/// Carries bytes to and fro until the call with this code ends; gives the event's kind and version, and its record.
+/// Carries bytes to and fro until the call with this code ends; returns the event's kind and version, and its record.
 fn ended(at: &mut Handle, stream: &mut TcpStream, code: u32) -> Outcome<(u32, u64, Vec<u8>)> {
     let (mut piece, mut event) = (vec![0; 65_536], Event([0; 4], [0; 2]));
     done(code)?;
