@@ -86,7 +86,7 @@ struct Service {
 /// and its metrics until its end; it prints `status ADDR:PORT` then, too.
 ///
 /// The store's version is one that `saver` saved, or that was there to begin with. Each later one
-/// is saved by it before any connection is told that it was published.
+/// is saved by it before any connection gets a reply that it was published.
 ///
 /// # Errors
 ///
