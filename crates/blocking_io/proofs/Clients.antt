@@ -25,7 +25,8 @@ use Rattle.client_core.specs.declared.state.Event.{Event}
 use Rattle.pir_schemes.specs.declared.scheme.Scheme.{Scheme}
 use Rattle.pir_schemes.specs.Retrievals.{hint_len}
 use Rattle.pir_schemes.specs.declared.plan.Plan.{Plan}
-use Rattle.client_core.specs.Replies.{AfterReply, faulty, reaction_to_reply, takes_welcome, takes_part, takes_answer, takes_stale, takes_done, takes_refused, is_accepted_welcome, is_part, more_parts, takes_asked_part, answered, reaction_to_stale, moved, takes_delta, takes_changes, changed, goes_by_parts, takes_no_delta}
+use Rattle.client_core.specs.Replies.{AfterReply, faulty, reaction_to_reply, is_accepted_welcome, is_part, more_parts, reaction_to_stale, moved, changed, goes_by_parts}
+use Rattle.client_core.specs.Kinds.{takes_welcome, takes_part, takes_answer, takes_stale, takes_done, takes_refused, takes_asked_part, answered, takes_delta, takes_changes, takes_no_delta}
 use Rattle.client_core.specs.Feeding.{Client, Course, start, course_after_reply, course_more, runs, takes_all, sends_of, fault_of, codec_fault, failing, ends_with, Gives, Follows, BreaksOff, FeedsOpen, FeedsFailed, FeedsClient}
 use Rattle.client_core.proofs.Courses.{runs_append, fault_stays}
 use Rattle.blocking_io.proofs.Streams.{take_both, feeds_both}

@@ -25,7 +25,8 @@ use Rattle.client_core.specs.declared.state.Call.{Call}
 use Rattle.client_core.specs.declared.state.Call.TheVariants.{Changes}
 use Rattle.client_core.specs.declared.state.Event.TheVariants.{Synced}
 use Rattle.client_core.specs.declared.state.ClientFault.TheVariants.{BadReply}
-use Rattle.client_core.specs.Replies.{faulty, ended, is_current, with_current, are_ascending, are_entries, have_slots, is_changes, hint_with_entries, changed, takes_changes}
+use Rattle.client_core.specs.Replies.{faulty, ended, is_current, with_current, are_ascending, are_entries, have_slots, is_changes, hint_with_entries, changed}
+use Rattle.client_core.specs.Kinds.{takes_changes}
 use Rattle.client_core.specs.Laws.{ChangesMakeTheHint, hint_of_slots}
 use Rattle.client_core.proofs.MovedRows.{ascending_here, ascending_below}
 

@@ -12,7 +12,8 @@ use Rattle.client_core.specs.declared.state.Call.{Call}
 use Rattle.client_core.specs.declared.state.Call.TheVariants.{Idle, Hello, Sync, Delta, Changes, Ask, Edit, Append, Publish}
 use Rattle.client_core.specs.declared.state.Event.{Event}
 use Rattle.client_core.specs.declared.state.ClientFault.{ClientFault}
-use Rattle.client_core.specs.Replies.{AfterReply, reaction_to_reply, plan_given, takes_welcome, takes_part, answered, takes_answer, reaction_to_stale, takes_stale, takes_delta, takes_changes, takes_no_delta, takes_done, takes_refused}
+use Rattle.client_core.specs.Replies.{AfterReply, reaction_to_reply, plan_given, reaction_to_stale}
+use Rattle.client_core.specs.Kinds.{takes_welcome, takes_part, answered, takes_answer, takes_stale, takes_delta, takes_changes, takes_no_delta, takes_done, takes_refused}
 use Rattle.client_core.specs.Feeding.{Client, Course, start, course_after_reply, course_more, runs, takes_all, failing, ends_with, codec_fault, Follows, BreaksOff, FeedsOpen, FeedsFailed}
 use Rattle.client_core.specs.Endings.{IsNoSync, OnlySyncsChangeTheHint}
 

@@ -22,7 +22,8 @@ use Rattle.client_core.specs.declared.state.Call.TheVariants.{Idle, Sync}
 use Rattle.client_core.specs.declared.state.Event.{Event}
 use Rattle.client_core.specs.declared.state.Event.TheVariants.{Synced, Stale, Refused}
 use Rattle.client_core.specs.declared.state.Reaction.TheVariants.{Asks, Reports, Fails}
-use Rattle.client_core.specs.Replies.{AfterReply, plan_given, reaction_to_reply, faulty, ended, is_part, more_parts, hint_made, takes_asked_part, takes_part, takes_welcome, takes_answer, takes_stale, takes_delta, takes_changes, takes_no_delta, takes_done, takes_refused, reaction_to_stale, is_current, with_current, is_delta, row_numbers, with_rows, hint_with_rows, moved}
+use Rattle.client_core.specs.Replies.{AfterReply, plan_given, reaction_to_reply, faulty, ended, is_part, more_parts, hint_made, reaction_to_stale, is_current, with_current, is_delta, row_numbers, with_rows, hint_with_rows, moved}
+use Rattle.client_core.specs.Kinds.{takes_asked_part, takes_part, takes_welcome, takes_answer, takes_stale, takes_delta, takes_changes, takes_no_delta, takes_done, takes_refused}
 use Rattle.client_core.specs.Feeding.{Course, course_after_reply, runs}
 use Rattle.client_core.specs.Laws.{ArePartsFrom, ArePartsOf, IsMadeOfParts, SyncedHintIsMadeOfParts, PartsOfAHintMakeIt, DeltaMakesTheHint, rows_of}
 use Rattle.client_core.proofs.Courses.{fault_stays}

@@ -23,7 +23,8 @@ use Rattle.client_core.specs.declared.state.Call.TheVariants.{Idle, Hello, Sync,
 use Rattle.client_core.specs.declared.state.Event.TheVariants.{Welcomed}
 use Rattle.client_core.specs.declared.state.ClientFault.TheVariants.{BadWelcome, BadReply}
 use Rattle.client_core.specs.States.{IsState, IsKnown, shape_known, Keeps, KnownFits, HintFits, CallFits, is_layout}
-use Rattle.client_core.specs.Replies.{AfterReply, plan_given, reaction_to_reply, faulty, ended, is_accepted_welcome, takes_welcome, is_part, more_parts, takes_asked_part, takes_part, is_answer, answered, takes_answer, is_current, with_current, reaction_to_stale, takes_stale, are_ascending, row_numbers, is_delta, moved, takes_delta, are_entries, have_slots, is_changes, changed, takes_changes, goes_by_parts, takes_no_delta, takes_done, takes_refused}
+use Rattle.client_core.specs.Replies.{AfterReply, plan_given, reaction_to_reply, faulty, ended, is_accepted_welcome, is_part, more_parts, is_answer, is_current, with_current, reaction_to_stale, are_ascending, row_numbers, is_delta, moved, are_entries, have_slots, is_changes, changed, goes_by_parts}
+use Rattle.client_core.specs.Kinds.{takes_welcome, takes_asked_part, takes_part, answered, takes_answer, takes_stale, takes_delta, takes_changes, takes_no_delta, takes_done, takes_refused}
 use Rattle.client_core.proofs.MovedRows.{with_rows-rows, with_rows-cols}
 use Rattle.digit_pack.proofs.Layouts.{layout_means}
 

@@ -24,7 +24,8 @@ use Rattle.client_core.specs.declared.state.CallFault.{CallFault}
 use Rattle.client_core.specs.declared.state.CallFault.TheVariants.{NotReady, Busy, BadIndex, SeedUsedUp, Failed, AlreadyWelcome}
 use Rattle.client_core.specs.States.{shape_known, is_idle, is_ready, known_version, known_count, scheme_held, delta_base, is_wide_client}
 use Rattle.client_core.specs.Calls.{ClientCall, Hello, Sync, Ask, Edit, Append, Publish, frame_since, sync_frame, sync_begun, state_after_call, call_frame, call_words, refusal, spent}
-use Rattle.client_core.specs.Replies.{AfterReply, plan_given, reaction_to_reply, is_accepted_welcome, takes_welcome, is_part, more_parts, takes_asked_part, takes_part, is_answer, answered, takes_answer, is_current, with_current, reaction_to_stale, takes_stale, row_numbers, is_delta, moved, takes_delta, is_changes, changed, takes_changes, goes_by_parts, takes_no_delta, takes_done, takes_refused}
+use Rattle.client_core.specs.Replies.{AfterReply, plan_given, reaction_to_reply, is_accepted_welcome, is_part, more_parts, is_answer, is_current, with_current, reaction_to_stale, row_numbers, is_delta, moved, is_changes, changed, goes_by_parts}
+use Rattle.client_core.specs.Kinds.{takes_welcome, takes_asked_part, takes_part, answered, takes_answer, takes_stale, takes_delta, takes_changes, takes_no_delta, takes_done, takes_refused}
 use Rattle.client_core.specs.Feeding.{sends_of}
 use Rattle.client_core.specs.Laws.{Happening, Accepted, TurnedDown, Lacking, Replied as Reply, Failing, after}
 use Rattle.client_core.specs.Shapes.{frames_at, frames, FrameShape, shape_of_frame, frame_shape, BlankCall, BlankHello, BlankAsk, blank_call, blank_reply, BlankHappening, blank, Awaited, NoReply, APart, awaited, HintName, hint_name, Outline, outline, asked_count, named_base, kind_since, sync_shape, call_shape, outline_of_sync, outline_after_call, outline_spent, Reacted, after_welcome, after_good_part, after_asked_part, after_part, after_asked_delta, after_delta, after_asked_changes, after_changes, after_asked_no_delta, after_no_delta, after_asked_answer, after_answer, after_asked_stale, after_stale, after_done, after_refused, after_reply, outline_after, shapes_at, shapes, HasWholeKey, KeyIsWhole, IndexIsBelow, EqualShapes}

@@ -1,8 +1,9 @@
 -- What a client does with a call.
-use Rattle.std.specs.Prelude.{◌≡◌, ◌+◌, ◌^◌, ℕ, List, [], Bool, true, false, Option, Some, None, is_some, nat_lt, if◌then◌else◌, ◌⊎◌}
+use Rattle.std.specs.Prelude.{◌≡◌, ◌+◌, ◌^◌, ℕ, List, [], cond, Bool, true, false, Option, Some, None, is_some, nat_lt, if◌then◌else◌, ◌⊎◌}
 use Rattle.frame_codec.specs.declared.frame.Frame.{Frame}
 use Rattle.frame_codec.specs.declared.frame.Frame.TheVariants as frame
 use Rattle.frame_codec.specs.Frames.{IsFrame, encoding}
+use Rattle.digit_pack.specs.Layout.{is_wide}
 use Rattle.pir_schemes.specs.declared.scheme.Scheme.{Scheme}
 use Rattle.pir_schemes.specs.Schemes.{scheme_byte}
 use Rattle.pir_schemes.specs.Retrievals.{query_words}
@@ -12,7 +13,7 @@ use Rattle.client_core.specs.declared.state.Call.{Call}
 use Rattle.client_core.specs.declared.state.Call.TheVariants as call
 use Rattle.client_core.specs.declared.state.CallFault.{CallFault}
 use Rattle.client_core.specs.declared.state.CallFault.TheVariants.{NotReady, Busy, BadIndex, SeedUsedUp, Memory, Failed, AlreadyWelcome}
-use Rattle.client_core.specs.States.{shape_known, is_idle, is_ready, known_version, known_count, scheme_held, delta_base, is_wide_client}
+use Rattle.client_core.specs.States.{shape_known, is_idle, is_ready, known_version, known_count, scheme_held, delta_base}
 
 -- a call, with what the caller gives it
 pub data ClientCall : Type 0 where
@@ -45,13 +46,13 @@ refusal _ c = change_refusal c
 -- the call that asks for what changed since a version: for records in a wide store, for rows of the
 -- hint in an ordinary one
 abbrev pub call_since : Bool → ℕ → Call
-call_since true since = call.Changes since
-call_since false since = call.Delta since
+call_since wide since = cond wide (call.Changes since) (call.Delta since)
 
--- a sync begins: by what changed since a version, and the hint is kept meanwhile; or by the parts
--- of the hint of the last version known, and the hint held is dropped
+-- a sync begins: by what changed since a version, and the hint is kept meanwhile, for records in a
+-- wide store, for rows of the hint in an ordinary one; or by the parts of the hint of the last
+-- version known, and the hint held is dropped
 abbrev pub sync_begun : Option ℕ → Scheme → ClientState → ClientState
-sync_begun (Some since) scheme c = record c { call = call_since (is_wide_client c) since }
+sync_begun (Some since) scheme c = record c { call = cond (is_wide c.profile) (call.Changes since) (call.Delta since) }
 sync_begun None scheme c = record c { call = call.Sync scheme (known_version c.known) 0; hint = None; parts = [] }
 
 -- the state after an accepted call
@@ -77,13 +78,12 @@ call_words (Some k) scheme seed number i = query_words scheme (shape_known k) k.
 -- the frame that asks for what changed since a version: for records in a wide store, for rows of
 -- the hint in an ordinary one
 abbrev pub frame_since : Bool → ℕ → Frame
-frame_since true since = frame.ChangesAsk since
-frame_since false since = frame.DeltaAsk since
+frame_since wide since = cond wide (frame.ChangesAsk since) (frame.DeltaAsk since)
 
--- the first frame of a sync: it asks for what changed since a version, or for the first part of the
--- hint of the last version known
+-- the first frame of a sync: it asks for what changed since a version, for records or for rows; or
+-- for the first part of the hint of the last version known
 abbrev pub sync_frame : Option ℕ → Scheme → ClientState → Frame
-sync_frame (Some since) scheme c = frame_since (is_wide_client c) since
+sync_frame (Some since) scheme c = cond (is_wide c.profile) (frame.ChangesAsk since) (frame.DeltaAsk since)
 sync_frame None scheme c = frame.HintAsk (scheme_byte scheme) (known_version c.known) 0
 
 -- the frame that an accepted call sends

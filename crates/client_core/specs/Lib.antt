@@ -1,6 +1,7 @@
 pub mod States
 pub mod Calls
 pub mod Replies
+pub mod Kinds
 pub mod Buffers
 pub mod Feeding
 pub mod Laws

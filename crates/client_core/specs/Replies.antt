@@ -42,6 +42,16 @@ faulty c f = record { state = record c { failed = true }; reaction = Fails f }
 abbrev pub ended : ClientState → Event → AfterReply
 ended c e = record { state = record c { call = Idle }; reaction = Reports e }
 
+-- a reply has to be borne out by what is known of the server: else it is a bad one
+abbrev pub if_known : ClientState → Option ServerInfo → (ServerInfo → Bool) → (ServerInfo → AfterReply) → AfterReply
+if_known c None is_right after = faulty c BadReply
+if_known c (Some k) is_right after = if is_right k then after k else faulty c BadReply
+
+-- and by the hint held
+abbrev pub if_held : ClientState → Option ServerInfo → Option Hint → (ServerInfo → Hint → Bool) → (ServerInfo → Hint → AfterReply) → AfterReply
+if_held c known None is_right after = faulty c BadReply
+if_held c known (Some h) is_right after = if_known c known (λ k. is_right k h) (λ k. after k h)
+
 -- ---- Welcome
 
 -- the plan that a Welcome gives
@@ -61,11 +71,6 @@ welcomed c p count version =
     if is_accepted_welcome c.profile p count version
     then ended (record c { known = Some (record { version = version; count = count; plan = p }) }) (Welcomed version)
     else faulty c BadWelcome
-
--- a Welcome answers hello alone
-abbrev pub takes_welcome : Call → ClientState → Plan → ℕ → ℕ → AfterReply
-takes_welcome Hello c p count version = welcomed c p count version
-takes_welcome _ c p count version = faulty c BadReply
 
 -- ---- HintPart
 
@@ -87,18 +92,6 @@ more_parts s k c version part words =
     then ended (record c { hint = Some (hint_made s k version words); parts = [] }) (Synced s version)
     else record { state = record c { call = Sync s version (part + 1); parts = words }; reaction = Asks s version (part + 1) }
 
--- a part that was asked for counts against the layout known
-abbrev pub takes_asked_part : Option ServerInfo → Scheme → ClientState → ℕ → ℕ → ℕ → ℕ → ℕ → List ℕ → AfterReply
-takes_asked_part None s c asked next scheme version part words = faulty c BadReply
-takes_asked_part (Some k) s c asked next scheme version part words =
-    if is_part s (hint_len s (shape_known k) k.plan.dimension) asked next scheme version part words
-    then more_parts s k c asked next (c.parts ++ words) else faulty c BadReply
-
--- a part answers a sync by parts alone
-abbrev pub takes_part : Call → ClientState → ℕ → ℕ → ℕ → List ℕ → AfterReply
-takes_part (Sync s v p) c scheme version part words = takes_asked_part c.known s c v p scheme version part words
-takes_part _ c scheme version part words = faulty c BadReply
-
 -- ---- Answer
 
 -- the record read, or unreadable if there is none
@@ -106,27 +99,10 @@ abbrev pub event_read : ℕ → ℕ → Option (List ℕ) → Event
 event_read i version (Some bytes) = Retrieved i version bytes
 event_read i version None = Unreadable i version
 
--- what an answer's digits give
-abbrev pub event_of : Plan → ℕ → ℕ → List ℕ → Event
-event_of p i version digits = event_read i version (record_of p digits)
-
 -- an answer of the scheme and the version asked, with as many words as the scheme wants
 abbrev pub is_answer : Scheme → ServerInfo → ℕ → ℕ → ℕ → List ℕ → Bool
 is_answer s k asked scheme version words =
     (scheme == scheme_byte s) && ((version == asked) && (length words == answer_count s (shape_known k) k.plan.dimension))
-
--- an answer is read with the hint held, in the hint's scheme
-abbrev pub answered : Option ServerInfo → Option Hint → ClientState → ℕ → ℕ → ℕ → ℕ → ℕ → List ℕ → AfterReply
-answered (Some k) (Some h) c i asked number scheme version words =
-    if is_answer h.scheme k asked scheme version words
-    then ended c (event_of k.plan i version (reading h.scheme (shape_known k) h.matrix c.seed number i words))
-    else faulty c BadReply
-answered _ _ c i asked number scheme version words = faulty c BadReply
-
--- an answer replies to ask alone
-abbrev pub takes_answer : Call → ClientState → ℕ → ℕ → List ℕ → AfterReply
-takes_answer (Ask i v n) c scheme version words = answered c.known c.hint c i v n scheme version words
-takes_answer _ c scheme version words = faulty c BadReply
 
 -- ---- Stale
 
@@ -141,17 +117,9 @@ with_current k version count = record k { version = version; count = count }
 -- the version and the count named are the last known, if these are another version than asked
 -- and a count within the limits; `after` is the state that goes on then
 abbrev pub reaction_to_stale : Option ServerInfo → ClientState → ClientState → ℕ → ℕ → ℕ → AfterReply
-reaction_to_stale None after c asked version count = faulty c BadReply
-reaction_to_stale (Some k) after c asked version count =
-    if not (version == asked) && is_current k version count
-    then ended (record after { known = Some (with_current k version count) }) (Stale version)
-    else faulty c BadReply
-
--- Stale answers a sync by parts, of which the unfinished ones are dropped, and ask
-abbrev pub takes_stale : Call → ClientState → ℕ → ℕ → AfterReply
-takes_stale (Sync s v p) c version count = reaction_to_stale c.known (record c { parts = [] }) c v version count
-takes_stale (Ask i v n) c version count = reaction_to_stale c.known c c v version count
-takes_stale _ c version count = faulty c BadReply
+reaction_to_stale known after c asked version count =
+    if_known c known (λ k. not (version == asked) && is_current k version count)
+    (λ k. ended (record after { known = Some (with_current k version count) }) (Stale version))
 
 -- ---- Delta
 
@@ -182,16 +150,9 @@ hint_with_rows h version rows = record h { version = version; matrix = with_rows
 
 -- its rows replace those of the hint held, whose version and count are the last known then
 abbrev pub moved : Option ServerInfo → Option Hint → ClientState → ℕ → ℕ → ℕ → ℕ → RowList → AfterReply
-moved (Some k) (Some h) c asked since now count rows =
-    if is_delta k asked since now count rows.dimension (row_numbers rows)
-    then ended (record c { known = Some (with_current k now count); hint = Some (hint_with_rows h now rows) }) (Synced Simple now)
-    else faulty c BadReply
-moved _ _ c asked since now count rows = faulty c BadReply
-
--- a Delta answers a sync by delta alone
-abbrev pub takes_delta : Call → ClientState → ℕ → ℕ → ℕ → RowList → AfterReply
-takes_delta (Delta asked) c since now count rows = moved c.known c.hint c asked since now count rows
-takes_delta _ c since now count rows = faulty c BadReply
+moved known hint c asked since now count rows =
+    if_held c known hint (λ k h. is_delta k asked since now count rows.dimension (row_numbers rows))
+    (λ k h. ended (record c { known = Some (with_current k now count); hint = Some (hint_with_rows h now rows) }) (Synced Simple now))
 
 -- ---- Changes
 
@@ -218,61 +179,50 @@ hint_with_entries p h version count entries =
 
 -- its entries move the hint held, whose version and count are the last known then
 abbrev pub changed : Option ServerInfo → Option Hint → ClientState → ℕ → ℕ → ℕ → ℕ → List ℕ → AfterReply
-changed (Some k) (Some h) c asked since now count entries =
-    if is_changes k asked since now count entries
-    then ended (record c { known = Some (with_current k now count); hint = Some (hint_with_entries k.plan h now count entries) })
-    (Synced Simple now)
-    else faulty c BadReply
-changed _ _ c asked since now count entries = faulty c BadReply
-
--- Changes answer a sync by changed records alone
-abbrev pub takes_changes : Call → ClientState → ℕ → ℕ → ℕ → List ℕ → AfterReply
-takes_changes (Changes asked) c since now count entries = changed c.known c.hint c asked since now count entries
-takes_changes _ c since now count entries = faulty c BadReply
+changed known hint c asked since now count entries =
+    if_held c known hint (λ k h. is_changes k asked since now count entries)
+    (λ k h. ended (record c { known = Some (with_current k now count); hint = Some (hint_with_entries k.plan h now count entries) }) (Synced Simple now))
 
 -- ---- NoDelta
 
 -- the hint held is dropped, and the sync goes on by the parts of the version named, which is the
 -- last known
 abbrev pub goes_by_parts : Option ServerInfo → ClientState → ℕ → ℕ → AfterReply
-goes_by_parts None c version count = faulty c BadReply
-goes_by_parts (Some k) c version count =
-    let after = record c { known = Some (with_current k version count); hint = None; parts = []; call = Sync Simple version 0 } in
-    if is_current k version count then record { state = after; reaction = Asks Simple version 0 } else faulty c BadReply
-
--- NoDelta answers a sync by delta or by changed records alone
-abbrev pub takes_no_delta : Call → ClientState → ℕ → ℕ → AfterReply
-takes_no_delta (Delta asked) c version count = goes_by_parts c.known c version count
-takes_no_delta (Changes asked) c version count = goes_by_parts c.known c version count
-takes_no_delta _ c version count = faulty c BadReply
-
--- ---- Done and Refused
-
--- Done answers edit, append and publish, whatever version it names
-abbrev pub takes_done : Call → ClientState → ℕ → AfterReply
-takes_done Edit c version = ended c (Done version)
-takes_done Append c version = ended c (Done version)
-takes_done Publish c version = ended c (Done version)
-takes_done _ c version = faulty c BadReply
-
--- Refused answers every call, with any code; in a sync by parts the unfinished ones are dropped
-abbrev pub takes_refused : Call → ClientState → ℕ → AfterReply
-takes_refused Idle c code = faulty c BadReply
-takes_refused (Sync s v p) c code = ended (record c { parts = [] }) (Refused code)
-takes_refused _ c code = ended c (Refused code)
+goes_by_parts known c version count =
+    if_known c known (λ k. is_current k version count) (λ k. record {
+      state = record c { known = Some (with_current k version count); hint = None; parts = []; call = Sync Simple version 0 };
+      reaction = Asks Simple version 0;
+    })
 
 -- ---- any frame
 
--- what a frame leads to; the kinds that no reply has, and those that answer no call yet, are bad
+-- What a frame leads to during a call. A part and an answer have to be those asked for, with all
+-- their words; Done may name any version; Refused ends every call, with any code. A sync by parts
+-- that ends without its hint drops the parts that came. Any other frame is a bad reply.
+abbrev pub reaction_during : Frame → Call → ClientState → AfterReply
+reaction_during (frame.Welcome profile width record_len groups count version dimension seed) Hello c =
+    welcomed c (record { form = profile; width = width; record_len = record_len; groups = groups; dimension = dimension; seed = seed })
+    count version
+reaction_during (frame.HintPart scheme version part words) (Sync s v p) c =
+    if_known c c.known (λ k. is_part s (hint_len s (shape_known k) k.plan.dimension) v p scheme version part words)
+    (λ k. more_parts s k c v p (c.parts ++ words))
+reaction_during (frame.Answer scheme version words) (Ask i v n) c =
+    if_held c c.known c.hint (λ k h. is_answer h.scheme k v scheme version words)
+    (λ k h. ended c (event_read i version (record_of k.plan (reading h.scheme (shape_known k) h.matrix c.seed n i words))))
+reaction_during (frame.Stale version count) (Sync s v p) c = reaction_to_stale c.known (record c { parts = [] }) c v version count
+reaction_during (frame.Stale version count) (Ask i v n) c = reaction_to_stale c.known c c v version count
+reaction_during (frame.Delta since now count rows) (Delta asked) c = moved c.known c.hint c asked since now count rows
+reaction_during (frame.Changes since now count entries) (Changes asked) c = changed c.known c.hint c asked since now count entries
+reaction_during (frame.NoDelta version count) (Delta asked) c = goes_by_parts c.known c version count
+reaction_during (frame.NoDelta version count) (Changes asked) c = goes_by_parts c.known c version count
+reaction_during (frame.Done version) Edit c = ended c (Done version)
+reaction_during (frame.Done version) Append c = ended c (Done version)
+reaction_during (frame.Done version) Publish c = ended c (Done version)
+reaction_during (frame.Refused code) Idle c = faulty c BadReply
+reaction_during (frame.Refused code) (Sync s v p) c = ended (record c { parts = [] }) (Refused code)
+reaction_during (frame.Refused code) _ c = ended c (Refused code)
+reaction_during _ _ c = faulty c BadReply
+
+-- what a frame leads to
 abbrev pub reaction_to_reply : ClientState → Frame → AfterReply
-reaction_to_reply c (frame.Welcome profile width record_len groups count version dimension seed) =
-    takes_welcome c.call c (plan_given profile width record_len groups dimension seed) count version
-reaction_to_reply c (frame.HintPart scheme version part words) = takes_part c.call c scheme version part words
-reaction_to_reply c (frame.Answer scheme version words) = takes_answer c.call c scheme version words
-reaction_to_reply c (frame.Stale version count) = takes_stale c.call c version count
-reaction_to_reply c (frame.Delta since now count rows) = takes_delta c.call c since now count rows
-reaction_to_reply c (frame.Changes since now count entries) = takes_changes c.call c since now count entries
-reaction_to_reply c (frame.NoDelta version count) = takes_no_delta c.call c version count
-reaction_to_reply c (frame.Done version) = takes_done c.call c version
-reaction_to_reply c (frame.Refused code) = takes_refused c.call c code
-reaction_to_reply c _ = faulty c BadReply
+reaction_to_reply c f = reaction_during f c.call c

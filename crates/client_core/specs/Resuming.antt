@@ -13,7 +13,8 @@ use Rattle.client_core.specs.declared.state.Call.TheVariants as call
 use Rattle.client_core.specs.declared.resuming.SavedClient.{SavedClient}
 use Rattle.client_core.specs.States.{IsState, shape_known, fresh_in, is_ready}
 use Rattle.client_core.specs.Calls.{Ask, refusal, change_refusal, state_after_call, call_frame, Hello}
-use Rattle.client_core.specs.Replies.{takes_welcome, is_accepted_welcome}
+use Rattle.client_core.specs.Replies.{is_accepted_welcome}
+use Rattle.client_core.specs.Kinds.{takes_welcome}
 use Rattle.client_core.specs.Feeding.{Course, takes_all}
 
 -- what is saved of a client: all that lasts but for its seed

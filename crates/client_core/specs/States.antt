@@ -49,7 +49,7 @@ abbrev pub delta_base : Scheme → Option Hint → Option ℕ
 delta_base Simple (Some h) = simple_version h.scheme h.version
 delta_base _ hint = None
 
--- whether a client's streams have the frames of a wide database, by the profile that it greets with
+-- whether a client's streams have the frames of a wide store, by the profile that it greets with
 abbrev pub is_wide_client : ClientState → Bool
 is_wide_client c = is_wide c.profile
 

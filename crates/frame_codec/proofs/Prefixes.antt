@@ -12,7 +12,7 @@ use Rattle.frame_codec.specs.Streams.{is_kind, length_at, kind_at, HasFrame, Has
 use Rattle.frame_codec.proofs.Payloads.{payload_sized}
 use Rattle.frame_codec.proofs.NumberBytes.{IsBytes, prefix, length-number, number_back, number_ahead, drop_number}
 
--- every kind is one of a wide database
+-- every kind is one of a wide store
 kinds_are : (f : Frame) → is_kind true (kind_of f) ≡ true
 kinds_are (Load record_len groups width records) = refl
 kinds_are (Query scheme version words) = refl
@@ -34,7 +34,7 @@ kinds_are (NoDelta version count) = refl
 kinds_are (Changes since now count entries) = refl
 kinds_are (Refused code) = refl
 
--- every frame may be in a stream of a wide database
+-- every frame may be in a stream of a wide store
 pub in_all : (f : Frame) → IsFrame f → IsFrameOf true f
 in_all f fits = record { frame = fits; known = kinds_are f }
 

@@ -1,4 +1,4 @@
--- What a stream of bytes says: its frames, and what comes after them. A stream of a wide database
+-- What a stream of bytes says: its frames, and what comes after them. A stream of a wide store
 -- has two more kinds of frames.
 use Rattle.std.specs.Prelude.{◌≡◌, ◌<◌, ◌≤◌, ◌+◌, ◌==◌, ℕ, List, [], ◌∷◌, ◌++◌, length, slice_index, take, option_to_list, Option, Some, None, IfSome, IfNone, Result, Ok, Err, ◌||◌, ◌&&◌, Bool, true, false}
 use Rattle.std.specs.List.{flat_map, AllByRecursion}
@@ -17,7 +17,7 @@ is_ordinary_kind k =
     (k == 1) || (k == 2) || (k == 3) || (k == 4) || (k == 5) || (k == 6) || (k == 7) || (k == 8) || (k == 9)
     || (k == 130) || (k == 131) || (k == 132) || (k == 133) || (k == 134) || (k == 135) || (k == 136) || (k == 143)
 
--- whether a byte names a kind: those of a wide database have two more, for changed records
+-- whether a byte names a kind: those of a wide store have two more, for changed records
 abbrev pub is_kind : Bool → ℕ → Bool
 is_kind wide k = is_ordinary_kind k || (wide && ((k == 10) || (k == 138)))
 

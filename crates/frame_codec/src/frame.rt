@@ -243,7 +243,7 @@ pub enum Frame {
     Append {
         bytes: Bytes,
     },
-    /// Kind 0a, of a wide database alone: the records that have changed since a version are asked
+    /// Kind 0a, of a wide store alone: the records that have changed since a version are asked
     /// for.
     ChangesAsk {
         since: u64,
@@ -295,7 +295,7 @@ pub enum Frame {
         version: u64,
         count: u32,
     },
-    /// Kind 8a, of a wide database alone: the records of version `now`, with so many records, that
+    /// Kind 8a, of a wide store alone: the records of version `now`, with so many records, that
     /// differ from those of version `since`. An entry is a record's index in four bytes, and the
     /// bytes that it had and has in the digits.
     Changes {

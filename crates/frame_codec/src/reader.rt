@@ -68,7 +68,7 @@ pub struct FrameRead {
 }
 
 /// The bytes of an unfinished frame, or the fact that the stream has failed: then no bytes are
-/// kept, and no room for any. Whether the stream is one of a wide database, which has two more
+/// kept, and no room for any. Whether the stream is one of a wide store, which has two more
 /// kinds of frames, is said at each call.
 #[derive(Drop)]
 pub struct Reader {

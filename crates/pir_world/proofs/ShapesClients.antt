@@ -19,33 +19,8 @@ use Rattle.client_core.specs.declared.state.Call.TheVariants as call
 use Rattle.digit_pack.specs.Layout.{is_wide}
 use Rattle.client_core.specs.States.{is_wide_client, shape_known, known_version, scheme_held, delta_base}
 use Rattle.client_core.specs.Calls.{ClientCall, Hello, Sync, Ask, frame_since, sync_frame, state_after_call, call_frame, call_words}
-use Rattle.client_core.specs.Replies.{
-  plan_given,
-  AfterReply,
-  reaction_to_reply,
-  is_accepted_welcome,
-  takes_welcome,
-  is_part,
-  takes_asked_part,
-  takes_part,
-  is_answer,
-  answered,
-  takes_answer,
-  is_current,
-  reaction_to_stale,
-  takes_stale,
-  row_numbers,
-  is_delta,
-  moved,
-  takes_delta,
-  takes_changes,
-  changed,
-  is_changes,
-  goes_by_parts,
-  takes_no_delta,
-  takes_done,
-  takes_refused,
-}
+use Rattle.client_core.specs.Replies.{plan_given, AfterReply, reaction_to_reply, is_accepted_welcome, is_part, is_answer, is_current, reaction_to_stale, row_numbers, is_delta, moved, changed, is_changes, goes_by_parts}
+use Rattle.client_core.specs.Kinds.{takes_welcome, takes_asked_part, takes_part, answered, takes_answer, takes_stale, takes_delta, takes_changes, takes_no_delta, takes_done, takes_refused}
 use Rattle.client_core.specs.Feeding.{sends_of}
 use Rattle.client_core.specs.Laws.{Replied as Reply, Accepted}
 use Rattle.client_core.specs.Shapes.{

@@ -1,4 +1,4 @@
-//! The two kinds of frames that streams of a wide database alone have: changed records are asked
+//! The two kinds of frames that streams of a wide store alone have: changed records are asked
 //! for, and given.
 
 use frame_codec::{Bytes, Frame, ReadFault, Reader, write_frame};

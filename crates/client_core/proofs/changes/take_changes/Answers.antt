@@ -3,7 +3,8 @@ use Rattle.client_core.specs.declared.state.ClientState.{ClientState}
 use Rattle.client_core.specs.declared.state.ServerInfo.{ServerInfo}
 use Rattle.client_core.specs.declared.state.Hint.{Hint}
 use Rattle.client_core.specs.declared.state.Call.TheVariants.{Idle}
-use Rattle.client_core.specs.Replies.{AfterReply, hint_with_entries, takes_changes}
+use Rattle.client_core.specs.Replies.{AfterReply, hint_with_entries}
+use Rattle.client_core.specs.Kinds.{takes_changes}
 use Rattle.client_core.proofs.Entries.{changes_taken}
 use Rattle.client_core.proofs.changes.take_changes.Goals as goal
 
