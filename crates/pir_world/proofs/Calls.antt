@@ -22,10 +22,11 @@ use Rattle.client_core.specs.Calls.{call_since, frame_since, refusal, sync_begun
 use Rattle.client_core.specs.Calls.{Hello as hello_call, Sync as sync_call, Ask as ask_call}
 use Rattle.client_core.specs.Replies.{reaction_to_reply}
 use Rattle.client_core.specs.Feeding.{takes_all, fault_of}
-use Rattle.pir_world.specs.Runs.{Wire, Link, Entry, sent, arrived, beyond, reported_by, reacts, reader_key}
+use Rattle.pir_world.specs.Runs.{Wire, Link, Entry, sent, arrived, beyond, reacts, reader_key}
 use Rattle.pir_world.specs.Versions.{seed_of}
 use Rattle.pir_world.specs.Headlines.{IsRight}
 use Rattle.pir_world.specs.Invariants.{CallIs, DeltaIs, GoodHistory, KnownIs, SyncIs, IsReply, outstanding_frame, InFlight, Phase, LinkInvariant}
+use Rattle.pir_world.proofs.Receipts.{reported_by}
 use Rattle.pir_world.proofs.Wires.{none_arrives, one_arrives, Split, IsFew, split_few}
 use Rattle.pir_world.proofs.Serves.{served_link}
 use Rattle.pir_world.proofs.Takes.{ClientInv, taken, hint_long}

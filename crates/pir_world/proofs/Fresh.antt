@@ -1,5 +1,5 @@
 -- No answer is older than what was reported before.
-use Rattle.std.proofs.Common.{◌≡◌, ℕ, ◌+◌, ◌≤◌, ◌^◌, Bool, true, false, List, [], ◌∷◌, ◌++◌, length, Option, Some, None, refl, inl, inr}
+use Rattle.std.proofs.Common.{◌≡◌, ℕ, ◌+◌, ◌≤◌, ◌^◌, Bool, true, false, List, [], ◌∷◌, ◌++◌, length, Option, Some, None, refl, sym, subst, inl, inr}
 use Rattle.std.specs.Prelude.{nat_lt, ◌==◌, slice_get, is_some}
 use Rattle.std.specs.List.{AllByRecursion}
 use Rattle.std.proofs.lemmas.Bool.{cond_both}
@@ -26,11 +26,12 @@ use Rattle.client_core.specs.Replies.{event_read, reaction_to_reply}
 use Rattle.pir_world.specs.declared.steps.Step.{Step}
 use Rattle.pir_world.specs.declared.steps.Step.TheVariants.{Edit, Append, Publish, Hello, Sync, Ask, ToServer, ToClient}
 use Rattle.pir_world.specs.declared.steps.Outcome.TheVariants.{Published, Reported}
-use Rattle.pir_world.specs.Runs.{State, Link, Turn, Entry, Called, Sent, Served, Ended, Plain, serves, arrived, beyond, reports, reacts, reported_by, state_after, call_at, called_at, served_at, reported_at, edit_after, publish_after, Steps, Run, reader_key, opening, setting_in, append_after}
+use Rattle.pir_world.specs.Runs.{State, Link, Turn, Entry, Called, Sent, Served, Ended, Plain, serves, arrived, beyond, reports, reacts, state_after, call_at, called_at, served_at, edit_after, publish_after, Steps, Run, reader_key, opening, setting_in, append_after}
 use Rattle.pir_world.specs.Versions.{seed_of}
 use Rattle.pir_world.specs.Headlines.{IsRight, IsRightEvent}
 use Rattle.pir_world.specs.Invariants.{LinkInvariant, EachAfter, WorldInvariant}
 use Rattle.pir_world.specs.Freshness.{NamesUpTo, ReportedUpTo, IsServedFresh, IsFresh, AnswersAreFresh, EveryLogIsFresh}
+use Rattle.pir_world.proofs.Receipts.{reported_by, reported_by_course, receipt_at}
 use Rattle.pir_world.proofs.Wires.{IsFew, split_few}
 use Rattle.pir_world.proofs.Calls.{few_frames}
 use Rattle.pir_world.proofs.Deliveries.{few_of_split}
@@ -145,7 +146,7 @@ module _ (x : Setting) (seeds : List (List ℕ)) (s : State) (inv : WorldInvaria
       (one_served x short k s.history l.standing s.log (arrived l.up most)
       (few_arrive x s.history (seed_of seeds k) l (inv.links k l at) most) (all_up_to x seeds s.history s.log inv.entries))
 
-  reported : (k most : ℕ) (o : Option Link) → EachAfter IsServedFresh [] (reported_at s k most o).log
+  reported : (k most : ℕ) (o : Option Link) → EachAfter IsServedFresh [] (reported_by_course s k most o).log
   reported k most None = so_far
   reported k most (Some l) = added _ (reported_served k l.client (arrived l.down most) s.log)
 
@@ -177,7 +178,8 @@ module _ (x : Setting) (seeds : List (List ℕ)) (s : State) (inv : WorldInvaria
   after_served short (Sync k scheme) = called_served (sync_call scheme) k (slice_get s.links k)
   after_served short (Ask k i) = called_served (ask_call i) k (slice_get s.links k)
   after_served short (ToServer k most) = delivered short k most (slice_get s.links k) refl
-  after_served short (ToClient k most) = reported k most (slice_get s.links k)
+  after_served short (ToClient k most) =
+      subst (λ (t : State). EachAfter IsServedFresh [] t.log) (sym (receipt_at s k most (slice_get s.links k))) (reported k most (slice_get s.links k))
 
   step_served : (step : Step) (t : State) → Steps x s step t → EachAfter IsServedFresh [] t.log
   step_served step t (f, inl e) = rw e (after_served false step)

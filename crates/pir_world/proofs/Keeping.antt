@@ -15,11 +15,12 @@ use Rattle.pir_world.specs.declared.steps.Step.{Step}
 use Rattle.pir_world.specs.declared.steps.Step.TheVariants.{Edit, Append, Publish, Hello, Sync, Ask, ToServer, ToClient}
 use Rattle.pir_world.specs.declared.steps.Outcome.{Outcome}
 use Rattle.pir_world.specs.declared.steps.Outcome.TheVariants.{Edited, EditRefused, Appended, AppendRefused, Published, PublishRefused}
-use Rattle.pir_world.specs.Runs.{State, Link, Entry, Called, Sent, Plain, state_after, called_at, served_at, reported_at, call_at, with_link, with_history, edit_after, append_after, publish_after, reported_by, arrived, reader_key, FitsStep, Steps, Run}
+use Rattle.pir_world.specs.Runs.{State, Link, Entry, Called, Sent, Plain, state_after, called_at, served_at, call_at, with_link, with_history, edit_after, append_after, publish_after, arrived, reader_key, FitsStep, Steps, Run}
 use Rattle.pir_world.specs.Earlier.{IsAside, HasEarlier}
 use Rattle.pir_world.specs.Versions.{seed_of}
 use Rattle.pir_world.specs.Headlines.{IsRight}
 use Rattle.pir_world.specs.Invariants.{GoodHistory, LinkInvariant, LogInvariant, WorldInvariant}
+use Rattle.pir_world.proofs.Receipts.{reported_by, reported_by_course, receipt_at}
 use Rattle.pir_world.proofs.Later.{IsLater, later_published, same_history, newest, good_published, good_edited, link_later, entries_later, get_same, get_other, good_appended}
 use Rattle.pir_world.proofs.Calls.{called_hello, called_sync, called_ask, reported_inv, served_inv}
 use Rattle.pir_world.proofs.Logs.{each_more, each_later, log_aside, log_later, served_asides, reported_aside}
@@ -93,7 +94,7 @@ module _ (x : Setting) (seeds : List (List ℕ)) (s : State) (inv : WorldInvaria
       (logged_served x seeds s.history k l s.log (inv.logs k l at) short most (inv.links k l at))
       (λ j ne. served_asides j k ne x short _ (arrived l.up most) tt)
 
-  reported_at_inv : RetrievalGivesTheRecord → (k most : ℕ) (o : Option Link) → slice_get s.links k ≡ o → WorldInvariant x seeds (reported_at s k most o)
+  reported_at_inv : RetrievalGivesTheRecord → (k most : ℕ) (o : Option Link) → slice_get s.links k ≡ o → WorldInvariant x seeds (reported_by_course s k most o)
   reported_at_inv law k most None at = inv
   reported_at_inv law k most (Some l) at =
       let d = reported_inv law x seeds k s.history l inv.history (inv.links k l at) most in
@@ -145,7 +146,8 @@ module _ (x : Setting) (seeds : List (List ℕ)) (s : State) (inv : WorldInvaria
       called_inv (ask_call j) k (slice_get s.links k) refl (λ l i g e. let n = called_ask x s.history (seed_of seeds k) l inv.history i j e in
       (n, logged_ask x seeds s.history k l s.log g j n))
   after_inv law short (ToServer k most) small = served_at_inv short k most (slice_get s.links k) refl
-  after_inv law short (ToClient k most) small = reported_at_inv law k most (slice_get s.links k) refl
+  after_inv law short (ToClient k most) small =
+      subst (λ (t : State). WorldInvariant x seeds t) (sym (receipt_at s k most (slice_get s.links k))) (reported_at_inv law k most (slice_get s.links k) refl)
 
 pub step_inv : RetrievalGivesTheRecord → (x : Setting) (seeds : List (List ℕ)) (s : State) (step : Step) (t : State) → Steps x s step t → WorldInvariant x seeds s →
     WorldInvariant x seeds t

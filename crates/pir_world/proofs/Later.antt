@@ -7,7 +7,6 @@ use Rattle.std.proofs.lemmas.Option.{slice_get_within}
 use Rattle.std.proofs.lemmas.List.{length-set, length-append, get_or_append_left}
 use Rattle.digit_pack.specs.Layout.{record_at, is_layout}
 use Rattle.pir_schemes.specs.declared.scheme.Scheme.{Scheme}
-use Rattle.pir_schemes.specs.Schemes.{scheme_of_byte}
 use Rattle.pir_schemes.specs.declared.plan.Plan.{Plan}
 use Rattle.pir_schemes.specs.Plans.{IsRecordOf, shape_at}
 use Rattle.frame_codec.specs.declared.frame.Frame.{Frame}
@@ -26,7 +25,7 @@ use Rattle.client_core.specs.declared.state.Event.TheVariants.{Welcomed, Synced,
 use Rattle.pir_world.specs.declared.steps.Outcome.TheVariants.{Published, Reported, Failed}
 use Rattle.pir_world.specs.Runs.{Link, Retrieval, Entry, Served, Ended, Plain}
 use Rattle.pir_world.specs.Versions.{HasVersion, IsVersion, HintIs, seed_of}
-use Rattle.pir_world.specs.Headlines.{IsRightEnd, IsRightQuery, IsRightEvent, IsRight}
+use Rattle.pir_world.specs.Headlines.{IsRightEnd, IsRightEvent, IsRight}
 use Rattle.pir_world.specs.Invariants.{AreRecords, GoodHistory, IsKnownOf, KnownIs, CallIs, IsReplyOf, IsReply, InFlight, Phase, LinkInvariant}
 use Rattle.std.proofs.Math.Seq.{get_or-append_seam}
 use Rattle.digit_pack.proofs.Layouts.{layout_means}
@@ -273,13 +272,10 @@ module _ (x : Setting) (h h2 : History) (later : IsLater h h2) where
   event_later (Done v) p = p
   event_later (Refused code) p = tt
 
-  query_later : (scheme : Option Scheme) (version now : ℕ) (words : List ℕ) (reply : Option Frame) → IsRightQuery x h scheme version now words reply →
-      IsRightQuery x h2 scheme version now words reply
-  query_later None version now words reply p = p
-  query_later (Some s) version now words reply p = record { records = p.records; version_is = later _ _ p.version_is; stale = p.stale; answered = p.answered }
-
   entry_later : (seeds : List (List ℕ)) (e : Entry) → IsRight x seeds h e → IsRight x seeds h2 e
-  entry_later seeds (Served k (Query scheme version words) now reply) p = query_later (scheme_of_byte scheme) version now words reply p
+  entry_later seeds (Served k (Query scheme version words) now reply) p =
+      let r = p.2 in
+      (p.0, p.1, record { records = r.records; version_is = later _ _ r.version_is; stale = r.stale; answered = r.answered })
   entry_later seeds (Ended k r reply event) p = end_later (seed_of seeds k) r reply event p
   entry_later seeds (Plain (Reported k event)) p = event_later event p
   entry_later seeds (Plain (Published v)) p = version_later v p

@@ -2,6 +2,7 @@ pub mod Later
 pub mod DeltaRows
 pub mod Wires
 pub mod Links
+pub mod Receipts
 pub mod Serves
 pub mod Takes
 pub mod Calls

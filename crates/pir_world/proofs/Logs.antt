@@ -23,10 +23,11 @@ use Rattle.client_core.specs.Calls.{Ask as ask_call}
 use Rattle.client_core.specs.Replies.{reaction_to_reply}
 use Rattle.client_core.specs.Feeding.{fault_of}
 use Rattle.pir_world.specs.declared.steps.Outcome.TheVariants.{Reported}
-use Rattle.pir_world.specs.Runs.{Link, Turn, Retrieval, Entry, Called, Sent, Served, Ended, Plain, turns, turn_more, reports, reacts, reported_by}
+use Rattle.pir_world.specs.Runs.{Link, Turn, Retrieval, Entry, Called, Sent, Served, Ended, Plain, turns, turn_more, reports, reacts}
 use Rattle.pir_world.specs.Earlier.{AllWithEarlier, IsAside, IsSentLast, IsServedLast, is_ask, asks_of, hint_after, hint_named, IsAsked, HasEarlier}
 use Rattle.pir_world.specs.Versions.{name_of, seed_of}
 use Rattle.pir_world.specs.Invariants.{IsFrom, LogInvariant, EachAfter}
+use Rattle.pir_world.proofs.Receipts.{reported_by}
 use Rattle.pir_world.proofs.Later.{IsLater}
 
 -- ---- each entry, with those before it

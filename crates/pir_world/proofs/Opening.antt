@@ -4,6 +4,7 @@ use Rattle.std.specs.Prelude.{slice_get, ◌||◌, ◌&&◌}
 use Rattle.std.proofs.lemmas.List.{length-map}
 use Rattle.matrix_u32.proofs.Products.{length-list_of}
 use Rattle.digit_pack.specs.Layout.{records_in, is_wide}
+use Rattle.digit_pack.proofs.Layouts.{layout_means}
 use Rattle.pir_schemes.specs.Plans.{content, records_held, client_profile}
 use Rattle.pir_schemes.specs.Laws.{RetrievalGivesTheRecord}
 use Rattle.frame_codec.specs.declared.frame.Frame.{Frame}
@@ -46,7 +47,7 @@ opening_records : (h : Header) (bytes : List ℕ) → IsOpening h bytes → AreR
 opening_records h bytes o =
     let n : length (held h bytes) ≡ h.count = length-map (records_in (shape_of h) bytes) (content (plan_held h)) ∙ length-list_of h.count _ in
     record {
-      plan = rw n (record { form = o.sound.sizes.form; layout = o.sound.sizes.layout; low = o.sound.sizes.low; high = o.sound.sizes.high });
+      plan = rw n (record { form = o.sound.sizes.form; layout = layout_means (shape_of h) o.sound.sizes.layout; low = o.sound.sizes.low; high = o.sound.sizes.high });
       each = λ i lt. held_is (plan_held h) (shape_of h) bytes refl o.sound.len o.bytes (held_slots h bytes o.sound.slots) i (omega (arith, lt, n));
     }
 

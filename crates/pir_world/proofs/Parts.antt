@@ -27,11 +27,12 @@ use Rattle.client_core.specs.Feeding.{takes_all, events_of, fault_of}
 use Rattle.frame_codec.specs.Frames.{IsFrame, encoding}
 use Rattle.pir_world.specs.declared.steps.Outcome.{Outcome}
 use Rattle.pir_world.specs.declared.steps.Outcome.TheVariants.{Reported, CallRefused}
-use Rattle.pir_world.specs.Runs.{State, Link, Turn, turns, turn_more, sent, with_history, Entry, Called, Sent, Plain, arrived, reported_by, reacts, reports, outcomes_of, outcome_of, called_at, served_at, reported_at}
+use Rattle.pir_world.specs.Runs.{State, Link, Turn, turns, turn_more, sent, with_history, Entry, Called, Sent, Plain, arrived, reacts, reports, outcomes_of, outcome_of, called_at, served_at}
 use Rattle.pir_schemes.specs.Laws.{RetrievalGivesTheRecord}
 use Rattle.pir_world.specs.Versions.{seed_of}
 use Rattle.pir_world.specs.Invariants.{WorldInvariant, LinkInvariant}
 use Rattle.pir_world.specs.Sides.{Side, Carries, EndIs, TakesDelivery, ServesDelivery, MakesCall, Matched, Implements, prefix}
+use Rattle.pir_world.proofs.Receipts.{reported_by, reported_by_course}
 use Rattle.pir_world.proofs.Later.{get_same, get_other}
 use Rattle.pir_world.proofs.Wires.{IsFew, split_few}
 use Rattle.frame_codec.specs.Streams.{IsFrameOf}
@@ -126,7 +127,7 @@ module _ (x : Setting) (core : Core) (ends : List Side) (os : List Outcome) (s :
   pub parts_reported : RetrievalGivesTheRecord → (seeds : List (List ℕ)) (most : ℕ) (out : List ℕ) (events : List Event) (fault : Option ClientFault) →
       WorldInvariant x seeds s → TakesDelivery most e out events fault e2
       → (fault ≡ Some Memory) ⊎ ((fault ≡ None)
-      × Implements x core (slice_set ends k e2) (os ++ map (Reported k) events) (reported_at s k most (slice_get s.links k)))
+      × Implements x core (slice_set ends k e2) (os ++ map (Reported k) events) (reported_by_course s k most (slice_get s.links k)))
   parts_reported law seeds most out events fault inv d =
       let m = met x core ends os s k e p at in
       let i = inv.links k m.link m.link_is in
@@ -136,7 +137,7 @@ module _ (x : Setting) (core : Core) (ends : List Side) (os : List Outcome) (s :
       ]
     where
       go : (m : Met x core k e s) → LinkInvariant x s.history (seed_of seeds k) m.link → EndReported (is_wide_setting x) e2 m.session m.link most events →
-          Implements x core (slice_set ends k e2) (os ++ map (Reported k) events) (reported_at s k most (slice_get s.links k))
+          Implements x core (slice_set ends k e2) (os ++ map (Reported k) events) (reported_by_course s k most (slice_get s.links k))
       go m i t =
           let few = (few_frames x s.history m.link.standing (seed_of seeds k) m.link.client m.link.client.call m.link.up.frames m.link.down.frames i.phase).1 in
           let arrives = few_of_split m.link.down.frames (arrived m.link.down most) _ few (split_few m.link.down most few) in

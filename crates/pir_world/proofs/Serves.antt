@@ -25,7 +25,7 @@ use Rattle.client_core.specs.States.{scheme_held}
 use Rattle.client_core.specs.Calls.{call_words}
 use Rattle.pir_world.specs.Runs.{Turn, Retrieval, Served, served_or, serves, reader_key}
 use Rattle.pir_world.specs.Versions.{HasVersion, IsVersion, HintIs, asked_words}
-use Rattle.pir_world.specs.Headlines.{IsRightReply, IsRightQuery, IsRight}
+use Rattle.pir_world.specs.Headlines.{IsRightReply, IsRight}
 use Rattle.pir_world.specs.Invariants.{GoodHistory, IsKnownOf, KnownIs, SyncIs, AskIs, CallIs, IsReply, outstanding_frame, InFlight, Phase}
 use Rattle.pir_world.proofs.Later.{newest, one_version, records_at}
 use Rattle.hint_changes.specs.Changes.{changes_between}
@@ -89,7 +89,7 @@ byte_names Double = refl
 right_query : (x : Setting) (h : History) (s : Scheme) (v now : ℕ) (words : List ℕ) (reply : Option Frame) → IsRightReply x h s v now words reply →
     IsServed x h now (frame.Query (scheme_byte s) v words) reply
 right_query x h s v now words reply r =
-    λ seeds k. let P : Option Scheme → Type 0 = λ o. IsRightQuery x h o v now words reply in subst P (sym (byte_names s)) r
+    λ seeds k. (s, refl, r)
 
 -- ---- a part of the hint
 

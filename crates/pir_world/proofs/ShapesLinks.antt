@@ -32,13 +32,12 @@ use Rattle.pir_world.specs.Runs.{
   with_link,
   reports,
   reacts,
-  reported_by,
   call_at,
   called_at,
   served_at,
-  reported_at,
 }
-use Rattle.pir_world.specs.Shapes.{sent_shape, reply_shape, call_refusal, HaveEqualShapes}
+use Rattle.pir_world.specs.Shapes.{shown, HaveEqualShapes}
+use Rattle.pir_world.proofs.Receipts.{reported_by, reported_by_course}
 use Rattle.pir_world.proofs.Links.{link_called, link_served, link_reported, turn_of}
 use Rattle.pir_world.proofs.Later.{get_same, get_other}
 use Rattle.pir_world.proofs.Wires.{IsFew, Split, split_few}
@@ -88,56 +87,36 @@ both_itself None = tt
 both_itself (Some l) = record { outlined = refl; standing = refl; up = wire_itself l.up; down = wire_itself l.down }
 
 pub state_itself : (s : State) → IsStateLike s s
-state_itself s = record { history = refl; links = λ k. both_itself (slice_get s.links k); logs = record { sent = λ k. refl; replies = λ k. refl; refusals = λ k. refl } }
+state_itself s = record { history = refl; links = λ k. both_itself (slice_get s.links k); logs = λ k. refl }
 
 -- ---- what a client writes into the log
 
 called_equal : (k : ℕ) (v w : ClientCall) (f g : Frame) → IsFrameLike f g → HaveEqualShapes (Called k v None ∷ Sent k f ∷ []) (Called k w None ∷ Sent k g ∷ [])
-called_equal k v w f g e = record { sent = λ j. rw (same_shape f g e) refl; replies = λ j. refl; refusals = λ j. refl }
+called_equal k v w f g e = λ j. rw (same_shape f g e) refl
 
-reports_sent : (j k : ℕ) (z : Scheme) (q : Call) (f : Frame) (e : Event) → flat_map (sent_shape j) (reports k z q f e ∷ []) ≡ []
-reports_sent j k z (Ask i v n) f e = refl
-reports_sent j k z q f e = refl
+reports_shown : (j k : ℕ) (z : Scheme) (q : Call) (f : Frame) (e : Event) → flat_map (shown j) (reports k z q f e ∷ []) ≡ []
+reports_shown j k z (Ask i v n) f e = refl
+reports_shown j k z q f e = refl
 
-reports_replied : (j k : ℕ) (z : Scheme) (q : Call) (f : Frame) (e : Event) → flat_map (reply_shape j) (reports k z q f e ∷ []) ≡ []
-reports_replied j k z (Ask i v n) f e = refl
-reports_replied j k z q f e = refl
-
-reacts_sent : (j k : ℕ) (z : Scheme) (q : Call) (f : Frame) (r : Reaction) → flat_map (sent_shape j) (reacts k z q f r) ≡ flat_map (sent_shape j) (map (λ (y : Frame). Sent k y) (sends_of r))
-reacts_sent j k z q f (Asks s v p) = refl
-reacts_sent j k z q f (Reports e) = reports_sent j k z q f e
-reacts_sent j k z q f (Fails fault) = refl
-
-reacts_replied : (j k : ℕ) (z : Scheme) (q : Call) (f : Frame) (r : Reaction) → flat_map (reply_shape j) (reacts k z q f r) ≡ []
-reacts_replied j k z q f (Asks s v p) = refl
-reacts_replied j k z q f (Reports e) = reports_replied j k z q f e
-reacts_replied j k z q f (Fails fault) = refl
-
-reports_no_refusal : (j k : ℕ) (z : Scheme) (q : Call) (f : Frame) (e : Event) → flat_map (call_refusal j) (reports k z q f e ∷ []) ≡ []
-reports_no_refusal j k z (Ask i v n) f e = refl
-reports_no_refusal j k z q f e = refl
-
-reacts_no_refusal : (j k : ℕ) (z : Scheme) (q : Call) (f : Frame) (r : Reaction) → flat_map (call_refusal j) (reacts k z q f r) ≡ []
-reacts_no_refusal j k z q f (Asks s v p) = refl
-reacts_no_refusal j k z q f (Reports e) = reports_no_refusal j k z q f e
-reacts_no_refusal j k z q f (Fails fault) = refl
+reacts_shown : (j k : ℕ) (z : Scheme) (q : Call) (f : Frame) (r : Reaction) →
+    flat_map (shown j) (reacts k z q f r) ≡ flat_map (shown j) (map (λ (y : Frame). Sent k y) (sends_of r))
+reacts_shown j k z q f (Asks s v p) = refl
+reacts_shown j k z q f (Reports e) = reports_shown j k z q f e
+reacts_shown j k z q f (Fails fault) = refl
 
 reacts_equal : (k : ℕ) (y z : Scheme) (q q2 : Call) (f g : Frame) (r r2 : Reaction) → sends_of r ≡ sends_of r2 →
     HaveEqualShapes (reacts k y q f r) (reacts k z q2 g r2)
-reacts_equal k y z q q2 f g r r2 e = record {
-  sent = λ j. reacts_sent j k y q f r ∙ ap (λ (fs : List Frame). flat_map (sent_shape j) (map (λ (u : Frame). Sent k u) fs)) e ∙ sym (reacts_sent j k z q2 g r2);
-  replies = λ j. reacts_replied j k y q f r ∙ sym (reacts_replied j k z q2 g r2);
-  refusals = λ j. reacts_no_refusal j k y q f r ∙ sym (reacts_no_refusal j k z q2 g r2);
-}
+reacts_equal k y z q q2 f g r r2 e j =
+    reacts_shown j k y q f r ∙ ap (λ (fs : List Frame). flat_map (shown j) (map (λ (u : Frame). Sent k u) fs)) e ∙ sym (reacts_shown j k z q2 g r2)
 
 abbrev none_or : Bool → List Entry
 none_or b = cond b [] []
 
 nothing_equal : (b d : Bool) → HaveEqualShapes (none_or b) (none_or d)
-nothing_equal true true = record { sent = λ j. refl; replies = λ j. refl; refusals = λ j. refl }
-nothing_equal true false = record { sent = λ j. refl; replies = λ j. refl; refusals = λ j. refl }
-nothing_equal false true = record { sent = λ j. refl; replies = λ j. refl; refusals = λ j. refl }
-nothing_equal false false = record { sent = λ j. refl; replies = λ j. refl; refusals = λ j. refl }
+nothing_equal true true = λ j. refl
+nothing_equal true false = λ j. refl
+nothing_equal false true = λ j. refl
+nothing_equal false false = λ j. refl
 
 -- ---- at most one reply
 
@@ -151,7 +130,7 @@ not_few f f2 fs (inl e) = cc
 not_few f f2 fs (inr z) = let e : f ∷ f2 ∷ fs ≡ z.0 ∷ [] = z.1 in cc
 
 taken_like : (k : ℕ) (c d : ClientState) (fs gs : List Frame) → outline c ≡ outline d → AreFramesLike fs gs → IsFew fs → AreTakenLike k c d fs gs
-taken_like k c d [] [] a e few = record { outlined = a; sends = refl; logs = record { sent = λ j. refl; replies = λ j. refl; refusals = λ j. refl } }
+taken_like k c d [] [] a e few = record { outlined = a; sends = refl; logs = λ j. refl }
 taken_like k c d (f ∷ []) (g ∷ []) a e few = record {
   outlined = replied_outline c d f g a e.0;
   sends = replied_sends c d f g a e.0;
@@ -192,7 +171,7 @@ module _ (s t : State) (a : IsStateLike s t) (k : ℕ) where
   call_like : (v w : ClientCall) (l m : Link) (f : Option CallFault)
       → slice_get s.links k ≡ Some l → slice_get t.links k ≡ Some m → IsLinkLike l m → IsReaders v → IsCallLike v w
       → IsStateLike (call_at s k v l f) (call_at t k w m f)
-  call_like v w l m (Some fault) at at2 b r e = replaced l m l m s.history t.history _ _ at at2 a.history b (record { sent = λ j. refl; replies = λ j. refl; refusals = λ j. refl })
+  call_like v w l m (Some fault) at at2 b r e = replaced l m l m s.history t.history _ _ at at2 a.history b (λ j. refl)
   call_like v w l m None at at2 b r e =
       let f = call_frame_like l.client m.client v w r b.outlined e in
       replaced l m (link_called v l) (link_called w m) s.history t.history _ _ at at2 a.history
@@ -235,13 +214,13 @@ module _ (s t : State) (a : IsStateLike s t) (k : ℕ) where
       at_start : (l m : Link) → IsLinkLike l m
           → IsTurnLike (record { history = s.history; standing = l.standing; replies = []; log = [] })
           (record { history = t.history; standing = m.standing; replies = []; log = [] })
-      at_start l m b = record { history = a.history; standing = b.standing; replies = tt; log = record { sent = λ j. refl; replies = λ j. refl; refusals = λ j. refl } }
+      at_start l m b = record { history = a.history; standing = b.standing; replies = tt; log = λ j. refl }
   served_like x most None (Some m) at at2 b = absurd b
   served_like x most (Some l) None at at2 b = absurd b
 
   pub reported_like : (most : ℕ) (o o2 : Option Link) → slice_get s.links k ≡ o → slice_get t.links k ≡ o2 → AreBothLike o o2
       → ((l : Link) → o ≡ Some l → IsFew l.down.frames)
-      → IsStateLike (reported_at s k most o) (reported_at t k most o2)
+      → IsStateLike (reported_by_course s k most o) (reported_by_course t k most o2)
   reported_like most None None at at2 b few = a
   reported_like most (Some l) (Some m) at at2 b few =
       let taken = taken_like k l.client m.client (arrived l.down most) (arrived m.down most) b.outlined

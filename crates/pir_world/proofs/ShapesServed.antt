@@ -12,24 +12,17 @@ use Rattle.server_core.specs.Serving.{Setting, Outcome, outcome_of_frame, takes_
 use Rattle.server_core.specs.Laws.{AreAlikeReplies}
 use Rattle.server_core.proofs.Alike.{replies_hold_no_index}
 use Rattle.pir_world.specs.Runs.{Turn, Entry, Served, served_or, turn_more, turns}
-use Rattle.pir_world.specs.Shapes.{sent_shape, reply_shape, call_refusal, HaveEqualShapes, HadMemory}
+use Rattle.pir_world.specs.Shapes.{shown, HaveEqualShapes, HadMemory}
 use Rattle.pir_world.proofs.ShapesFrames.{IsFrameLike, same_frame, same_shape, AreFramesLike, like_append}
 
 -- ---- logs
 
 pub equal_append : (a b c d : List Entry) → HaveEqualShapes a b → HaveEqualShapes c d → HaveEqualShapes (a ++ c) (b ++ d)
-equal_append a b c d p q = record {
-  sent = λ k. appended (sent_shape k) (p.sent k) (q.sent k);
-  replies = λ k. appended (reply_shape k) (p.replies k) (q.replies k);
-  refusals = λ k. appended (call_refusal k) (p.refusals k) (q.refusals k);
-}
-  where
-    appended : {X : Type 0} (v : Entry → List X) → flat_map v a ≡ flat_map v b → flat_map v c ≡ flat_map v d → flat_map v (a ++ c) ≡ flat_map v (b ++ d)
-    appended v e f =
-        flat_map-append v a c
-        ∙ ap (λ z. z ++ flat_map v c) e
-        ∙ ap (λ z. flat_map v b ++ z) f
-        ∙ sym (flat_map-append v b d)
+equal_append a b c d p q k =
+    flat_map-append (shown k) a c
+    ∙ ap (λ z. z ++ flat_map (shown k) c) (p k)
+    ∙ ap (λ z. flat_map (shown k) b ++ z) (q k)
+    ∙ sym (flat_map-append (shown k) b d)
 
 pub all_first : {X : Type 0} (P : X → Type 0) (xs ys : List X) → AllByRecursion P (xs ++ ys) → AllByRecursion P xs
 all_first P [] ys a = tt
@@ -93,8 +86,8 @@ replies_listed None (Some q) e = absurd e
 replies_listed (Some r) None e = absurd e
 
 served_equal : (k : ℕ) (f g : Frame) (now : ℕ) (o p : Option Frame) → IsReplyLike o p → HaveEqualShapes (Served k f now o ∷ []) (Served k g now p ∷ [])
-served_equal k f g now None None e = record { sent = λ j. refl; replies = λ j. refl; refusals = λ j. refl }
-served_equal k f g now (Some r) (Some q) e = record { sent = λ j. refl; replies = λ j. rw (same_shape r q e) refl; refusals = λ j. refl }
+served_equal k f g now None None e = λ j. refl
+served_equal k f g now (Some r) (Some q) e = λ j. rw (same_shape r q e) refl
 served_equal k f g now None (Some q) e = absurd e
 served_equal k f g now (Some r) None e = absurd e
 

@@ -22,7 +22,6 @@ use Rattle.pir_world.specs.Runs.{
   state_after,
   called_at,
   served_at,
-  reported_at,
   call_at,
   with_link,
   with_history,
@@ -41,6 +40,7 @@ use Rattle.pir_world.specs.Runs.{
 use Rattle.pir_world.specs.Versions.{seed_of}
 use Rattle.pir_world.specs.Shapes.{IsStepLike, AreStepsLike, HadMemory, AskIsWithin, AsksAreWithin, IsPlainRun, IndicesChangeNoShape}
 use Rattle.pir_world.specs.Invariants.{WorldInvariant}
+use Rattle.pir_world.proofs.Receipts.{reported_by_course, receipt_at}
 use Rattle.pir_world.proofs.Calls.{few_frames}
 use Rattle.pir_world.proofs.Keeping.{step_inv}
 use Rattle.pir_world.proofs.Opening.{opening_inv}
@@ -66,7 +66,7 @@ module _ (x : Setting) (s t : State) (a : IsStateLike s t) where
   history_like h o = record {
     history = refl;
     links = a.links;
-    logs = equal_append s.log t.log (Plain o ∷ []) (Plain o ∷ []) a.logs (record { sent = λ k. refl; replies = λ k. refl; refusals = λ k. refl });
+    logs = equal_append s.log t.log (Plain o ∷ []) (Plain o ∷ []) a.logs (λ k. refl);
   }
 
   edit_like : (i : ℕ) (bytes : List ℕ) → IsStateLike (edit_after x s i bytes) (edit_after x t i bytes)
@@ -117,7 +117,10 @@ module _ (x : Setting) (s t : State) (a : IsStateLike s t) where
       → IsStateLike (state_after x false s (Ask k i)) (state_after x false t o) in
       subst P (sym e.1) (λ b3 b4. calls_like k (ask_call i) (ask_call e.0) tt (e.0, refl) (asks_refused k i e.0 b3 b4)) b b2
   after_like seeds inv (ToServer k most) other e b b2 = rw e (served_like s t a k x most (slice_get s.links k) (slice_get t.links k) refl refl (a.links k))
-  after_like seeds inv (ToClient k most) other e b b2 = rw e (reported_like s t a k most (slice_get s.links k) (slice_get t.links k) refl refl (a.links k) few)
+  after_like seeds inv (ToClient k most) other e b b2 =
+      rw e (subst (λ (u : State). IsStateLike u (state_after x false t (ToClient k most))) (sym (receipt_at s k most (slice_get s.links k)))
+      (subst (λ (u : State). IsStateLike (reported_by_course s k most (slice_get s.links k)) u) (sym (receipt_at t k most (slice_get t.links k)))
+      (reported_like s t a k most (slice_get s.links k) (slice_get t.links k) refl refl (a.links k) few)))
     where
       few : (l : Link) → slice_get s.links k ≡ Some l → IsFew l.down.frames
       few l at = (few_frames x s.history l.standing (seed_of seeds k) l.client l.client.call l.up.frames l.down.frames (inv.links k l at).phase).1
@@ -141,7 +144,7 @@ module _ (x : Setting) (s : State) where
     served_kept short k most None all = all
     served_kept short k most (Some l) all = all_first P s.log _ all
 
-    reported_kept : (k most : ℕ) (o : Option Link) → IsHeldBefore (reported_at s k most o)
+    reported_kept : (k most : ℕ) (o : Option Link) → IsHeldBefore (reported_by_course s k most o)
     reported_kept k most None all = all
     reported_kept k most (Some l) all = all_first P s.log _ all
 
@@ -163,7 +166,7 @@ module _ (x : Setting) (s : State) where
     step_kept short (Sync k scheme) = called_kept k (sync_call scheme) (slice_get s.links k)
     step_kept short (Ask k i) = called_kept k (ask_call i) (slice_get s.links k)
     step_kept short (ToServer k most) = served_kept short k most (slice_get s.links k)
-    step_kept short (ToClient k most) = reported_kept k most (slice_get s.links k)
+    step_kept short (ToClient k most) = subst IsHeldBefore (sym (receipt_at s k most (slice_get s.links k))) (reported_kept k most (slice_get s.links k))
 
     pub steps_kept : (step : Step) (t : State) → Steps x s step t → IsHeldBefore t
     steps_kept step t (fits, inl e) = subst IsHeldBefore (sym e) (step_kept false step)

@@ -84,11 +84,6 @@ pub record IsEndOfAsk (x : Setting) (h : History) (seed : List ℕ) (k : ℕ) (r
   pub asked : IsAsked x h seed k r query first
   pub served : IsServedLast k query reply first log
 
--- the frame that asks for what changed since a version: for rows of the hint, or in a wide store
--- for records
-abbrev pub IsAskSince : ℕ → Frame → Type 0
-IsAskSince since f = (f ≡ frame.DeltaAsk since) ⊎ (f ≡ frame.ChangesAsk since)
-
 -- A part of a hint was asked for: the first after an accepted sync, or after what changed was asked
 -- for in vain, and each other after the one before it was served.
 abbrev pub IsAskForPart : ℕ → ℕ → ℕ → ℕ → List Entry → Type 0
@@ -96,7 +91,7 @@ IsAskForPart k scheme version part log =
     ((first : List Entry) × (s : Scheme) × (log ≡ first ++ Called k (Sync s) None ∷ []) × (scheme ≡ scheme_byte s) × (part ≡ 0))
     ⊎ ((first : List Entry) × (p : ℕ) × (words : List ℕ) × (part ≡ p + 1) ×
     IsServedLast k (frame.HintAsk scheme version p) (frame.HintPart scheme version p words) first log)
-    ⊎ ((first : List Entry) × (since : ℕ) × (count : ℕ) × (ask : Frame) × (scheme ≡ scheme_byte Simple) × (part ≡ 0) × IsAskSince since ask ×
+    ⊎ ((first : List Entry) × (since : ℕ) × (count : ℕ) × (ask : Frame) × (scheme ≡ scheme_byte Simple) × (part ≡ 0) × ((ask ≡ frame.DeltaAsk since) ⊎ (ask ≡ frame.ChangesAsk since)) ×
     IsServedLast k ask (frame.NoDelta version count) first log)
 
 -- What changed since a version was asked for: after an accepted sync of SimplePIR, while that

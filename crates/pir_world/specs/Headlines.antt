@@ -3,7 +3,7 @@ use Rattle.std.specs.Prelude.{◌≡◌, ◌≢◌, ◌<◌, ◌⊎◌, ℕ, Lis
 use Rattle.std.specs.List.{AllByRecursion}
 use Rattle.digit_pack.specs.Layout.{record_at}
 use Rattle.pir_schemes.specs.declared.scheme.Scheme.{Scheme}
-use Rattle.pir_schemes.specs.Schemes.{scheme_byte, scheme_of_byte}
+use Rattle.pir_schemes.specs.Schemes.{scheme_byte}
 use Rattle.pir_schemes.specs.Plans.{shape_at}
 use Rattle.pir_schemes.specs.Laws.{IsCertainOf}
 use Rattle.pir_schemes.specs.Retrievals.{answer_words}
@@ -62,12 +62,6 @@ pub record IsRightReply (x : Setting) (h : History) (scheme : Scheme) (version n
       (reply ≡ Some (frame.Answer (scheme_byte scheme) now (answer_words scheme x.plan records words)))
       ⊎ (reply ≡ Some (refused refusal.Memory))
 
--- a query was served rightly, in the scheme that its byte names; no client sends a byte that names
--- none
-abbrev pub IsRightQuery : Setting → History → Option Scheme → ℕ → ℕ → List ℕ → Option Frame → Type 0
-IsRightQuery x h None version now words reply = ⊥
-IsRightQuery x h (Some scheme) version now words reply = IsRightReply x h scheme version now words reply
-
 -- An event that ended no retrieval is right: a Welcomed, a Synced or a Stale names a version that
 -- there is, a Refused may come of any call, and there is no other event.
 abbrev pub IsRightEvent : History → Event → Type 0
@@ -77,10 +71,11 @@ IsRightEvent h (Stale v) = IsVersion h v
 IsRightEvent h (Refused code) = Unit {0}
 IsRightEvent h _ = ⊥
 
--- An entry is right by itself: a query was served rightly and a retrieval ended rightly, any other
--- event is right, a version published is one that there is, and no client fails.
+-- An entry is right by itself: a query names a scheme, and was served rightly; a retrieval ended
+-- rightly; any other event is right; a version published is one that there is; no client fails.
 abbrev pub IsRight : Setting → List (List ℕ) → History → Entry → Type 0
-IsRight x seeds h (Served k (frame.Query scheme version words) now reply) = IsRightQuery x h (scheme_of_byte scheme) version now words reply
+IsRight x seeds h (Served k (frame.Query scheme version words) now reply) =
+    (s : Scheme) × (scheme ≡ scheme_byte s) × IsRightReply x h s version now words reply
 IsRight x seeds h (Ended k r reply event) = IsRightEnd x h (seed_of seeds k) r reply event
 IsRight x seeds h (Plain (Reported k event)) = IsRightEvent h event
 IsRight x seeds h (Plain (Published v)) = IsVersion h v
@@ -101,10 +96,11 @@ pub record IsOpening (h : Header) (records : List ℕ) : Type 0 where
   pub sound : IsSound h records
   pub bytes : All (λ b. b < 2 ^ 8) records
 
--- a run of these steps leads to this state from the opening of a snapshot, which a store accepts,
--- with a client for each seed
+-- a run of these steps leads to this state from the opening of a snapshot, which a store accepts and
+-- whose records are bytes, with a client for each seed
 pub record IsRunFrom (h : Header) (records : List ℕ) (seeds : List (List ℕ)) (steps : List Step) (s : State) : Type 0 where
-  pub opens : IsOpening h records
+  pub sound : IsSound h records
+  pub bytes : All (λ b. b < 2 ^ 8) records
   pub run : Run (setting_in h) (opening h records seeds) steps s
 
 -- what `Headline` says is so in every run from every snapshot that a store accepts, for all seeds

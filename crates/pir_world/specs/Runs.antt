@@ -30,7 +30,7 @@ use Rattle.client_core.specs.States.{fresh_in, scheme_held}
 use Rattle.client_core.specs.Calls.{ClientCall, refusal, state_after_call, call_frame}
 use Rattle.client_core.specs.Calls.{Hello as hello_call, Sync as sync_call, Ask as ask_call}
 use Rattle.client_core.specs.Replies.{reaction_to_reply}
-use Rattle.client_core.specs.Feeding.{takes_all, fault_of}
+use Rattle.client_core.specs.Feeding.{sends_of, fault_of}
 use Rattle.pir_world.specs.declared.steps.Step.{Step}
 use Rattle.pir_world.specs.declared.steps.Step.TheVariants.{Edit, Append, Publish, Hello, Sync, Ask, ToServer, ToClient}
 use Rattle.pir_world.specs.declared.steps.Outcome.{Outcome}
@@ -161,11 +161,20 @@ reacts k s c reply (Asks scheme version part) = Sent k (frame.HintAsk (scheme_by
 reacts k s c reply (Reports e) = reports k s c reply e ∷ []
 reacts k s c reply (Fails fault) = Plain (Failed k fault) ∷ []
 
--- what client k reports and sends at replies, one after another, up to a fault
-abbrev pub reported_by : ℕ → ClientState → List Frame → List Entry
-reported_by k c [] = []
-reported_by k c (f ∷ fs) = reacts k (scheme_held c.hint) c.call f (reaction_to_reply c f).reaction ++ cond (is_some (fault_of (reaction_to_reply c f).reaction)) []
-    (reported_by k (reaction_to_reply c f).state fs)
+-- what client k makes of replies: its state after them, the frames that it sends, and what is written
+-- down
+pub record Receipt : Type 0 where
+  pub client : ClientState
+  pub sends : List Frame
+  pub log : List Entry
+
+-- replies one after another, up to a fault
+abbrev pub receives : ℕ → ClientState → List Frame → Receipt
+receives k c [] = record { client = c; sends = []; log = [] }
+receives k c (f ∷ fs) =
+    let t = reaction_to_reply c f in
+    let rest = cond (is_some (fault_of t.reaction)) (record { client = t.state; sends = []; log = [] }) (receives k t.state fs) in
+    record { client = rest.client; sends = sends_of t.reaction ++ rest.sends; log = reacts k (scheme_held c.hint) c.call f t.reaction ++ rest.log }
 
 -- ---- runs
 
@@ -209,9 +218,8 @@ served_at x short s k most (Some l) =
 abbrev pub reported_at : State → ℕ → ℕ → Option Link → State
 reported_at s k most None = s
 reported_at s k most (Some l) =
-    let fs = arrived l.down most in
-    let t = takes_all l.client fs in
-    with_link s s.history k (record l { client = t.state; up = sent l.up t.sends; down = beyond l.down most }) (reported_by k l.client fs)
+    let t = receives k l.client (arrived l.down most) in
+    with_link s s.history k (record l { client = t.client; up = sent l.up t.sends; down = beyond l.down most }) t.log
 
 -- the key of a reader
 abbrev pub reader_key : List ℕ

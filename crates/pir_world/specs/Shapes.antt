@@ -1,5 +1,5 @@
--- The shapes of what goes over a client's link, read off the log: the frames that it sends, the
--- server's replies to them, and why its calls are refused.
+-- What may be seen of a client, read off the log: the shapes of the frames that it sends and of the
+-- replies to them, and why its calls are refused.
 use Rattle.std.specs.Prelude.{◌≡◌, ◌≢◌, ◌==◌, ℕ, List, [], ◌∷◌, Option, Some, false, cond, slice_get}
 use Rattle.std.specs.List.{flat_map, AllByRecursion}
 use Rattle.frame_codec.specs.declared.refusal.Refusal.TheVariants.{Memory}
@@ -18,28 +18,23 @@ use Rattle.pir_world.specs.Headlines.{IsOpening}
 
 -- ---- shapes
 
--- the shape of an entry's frame, if client k sent it
-abbrev pub sent_shape : ℕ → Entry → List FrameShape
-sent_shape k (Sent j f) = cond (j == k) (shape_of_frame f ∷ []) []
-sent_shape k _ = []
+-- what may be seen of a client: the shape of a frame that it sends, the shape of a reply to it, and
+-- whether a call of it is refused, and why
+pub data Sight : Type 0 where
+  Sends : (shape : FrameShape) → Sight
+  Receives : (shape : FrameShape) → Sight
+  Calls : (refusal : Option CallFault) → Sight
 
--- the shape of an entry's reply, if it was to client k
-abbrev pub reply_shape : ℕ → Entry → List FrameShape
-reply_shape k (Served j f now (Some reply)) = cond (j == k) (shape_of_frame reply ∷ []) []
-reply_shape k _ = []
+-- what an entry shows of client k
+abbrev pub shown : ℕ → Entry → List Sight
+shown k (Sent j f) = cond (j == k) (Sends (shape_of_frame f) ∷ []) []
+shown k (Served j f now (Some reply)) = cond (j == k) (Receives (shape_of_frame reply) ∷ []) []
+shown k (Called j want why) = cond (j == k) (Calls why ∷ []) []
+shown k _ = []
 
--- whether an entry's call was refused, and why, if client k made it
-abbrev pub call_refusal : ℕ → Entry → List (Option CallFault)
-call_refusal k (Called j want why) = cond (j == k) (why ∷ []) []
-call_refusal k _ = []
-
--- Two logs say that over each link the same shapes went, in the frames that client k sent and in
--- the replies to it, each way in the same order, and that of the calls of client k, in their order,
--- the same were refused, for the same causes.
-pub record HaveEqualShapes (log other : List Entry) : Type 0 where
-  pub sent : (k : ℕ) → flat_map (sent_shape k) log ≡ flat_map (sent_shape k) other
-  pub replies : (k : ℕ) → flat_map (reply_shape k) log ≡ flat_map (reply_shape k) other
-  pub refusals : (k : ℕ) → flat_map (call_refusal k) log ≡ flat_map (call_refusal k) other
+-- two logs show the same of each client, in the same order
+abbrev pub HaveEqualShapes : List Entry → List Entry → Type 0
+HaveEqualShapes log other = (k : ℕ) → flat_map (shown k) log ≡ flat_map (shown k) other
 
 -- ---- steps that differ in indices alone
 
@@ -98,4 +93,5 @@ IndicesChangeNoShape = (h : Header) (records : List ℕ) (seeds : List (List ℕ
 -- for its index.
 abbrev pub HidesIndices : Setting → State → List Step → State → Type 0
 HidesIndices x start steps s = (others : List Step) (last : State) → AreStepsLike steps others →
-    AllByRecursion HadMemory s.log → AsksAreWithin x start steps others → IsPlainRun x start others steps last → HaveEqualShapes s.log last.log
+    AllByRecursion HadMemory s.log → AsksAreWithin x start steps others →
+    Run x start others last → AllByRecursion HadMemory last.log → AsksAreWithin x start others steps → HaveEqualShapes s.log last.log
