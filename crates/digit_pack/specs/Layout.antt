@@ -43,7 +43,8 @@ shape width record_len groups count = shape_within ordinary_side width record_le
 
 -- the shape of these four sizes in a form
 abbrev pub shape_in : ℕ → ℕ → ℕ → ℕ → ℕ → Shape
-shape_in form width record_len groups count = shape_within (side_of form) width record_len groups count
+shape_in form width record_len groups count =
+    record { side = side_of form; width = width; record_len = record_len; groups = groups; count = count }
 
 -- how many digits a record has: 8 bits a byte, divided by the width, rounded up
 abbrev pub digits_per_record : Shape → ℕ

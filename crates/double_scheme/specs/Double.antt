@@ -59,7 +59,7 @@ part_queries_of l a2 seed number i = flat_map (part_query_of l a2 seed number i)
 
 -- the query for record i
 unfoldable pub double_query : Shape → WordMatrix → WordMatrix → List ℕ → ℕ → ℕ → List ℕ
-double_query l a1 a2 seed number i = first_query_of l a1 seed number i ++ part_queries_of l a2 seed number i
+double_query l a1 a2 seed number i = simple_query l a1 seed number i ++ part_queries_of l a2 seed number i
 
 -- the words of part d of a query's words
 abbrev pub part_of_query : Shape → List ℕ → ℕ → List ℕ
@@ -143,4 +143,4 @@ pub record IsQuietDouble (l : Shape) (records : List (List ℕ)) (a1 : WordMatri
   pub hint : (d r : ℕ) → d < digits_per_record l → r < a1.cols * split_count l.width →
       IsQuiet l.width (row (server_hint_of l.width (digit_matrix l records) a1) r) (part_noise seed number (digit_rows l) d)
   pub answer : (d r : ℕ) → d < digits_per_record l → r < split_count l.width →
-      IsQuiet l.width (row (first_answer_of l.width (digit_matrix l records) (first_query_of l a1 seed number i)) r) (part_noise seed number (digit_rows l) d)
+      IsQuiet l.width (row (first_answer_of l.width (digit_matrix l records) (simple_query l a1 seed number i)) r) (part_noise seed number (digit_rows l) d)

@@ -1,5 +1,5 @@
 -- Hints that are moved by the records that changed.
-use Rattle.std.specs.Prelude.{⊤, All, Bool, true, false, nat_eq, ◌≡◌, ◌≢◌, ◌⊎◌, ℕ, ◌+◌, ◌-◌, ◌*◌, ◌%◌, ◌/◌, ◌^◌, ◌<◌, ◌≤◌, ◌==◌, if◌then◌else◌, List, [], ◌∷◌, length, slice_index, slice_set}
+use Rattle.std.specs.Prelude.{⊤, All, Bool, true, false, nat_eq, cond, ◌≡◌, ◌≢◌, ◌⊎◌, ℕ, ◌+◌, ◌-◌, ◌*◌, ◌%◌, ◌/◌, ◌^◌, ◌<◌, ◌≤◌, ◌==◌, if◌then◌else◌, List, [], ◌∷◌, length, slice_index, slice_set}
 use Rattle.std.specs.Cmp.Lexicographic.{pointwise}
 use Rattle.std.specs.List.{range_with_len}
 use Rattle.matrix_u32.specs.Matrix.{WordMatrix, IsWhole, entry, matrix_of}
@@ -89,8 +89,7 @@ pub record LeadTo (l : Shape) (changes : List ChangedRecord) (before after : Lis
 
 -- a change, and those after it; it is left out if it is none
 abbrev pub unless_same : Bool → ChangedRecord → List ChangedRecord → List ChangedRecord
-unless_same true c more = more
-unless_same false c more = c ∷ more
+unless_same same c more = cond same more (c ∷ more)
 
 -- the change of record i from one list of records to another
 abbrev pub change_of : List (List ℕ) → List (List ℕ) → ℕ → ChangedRecord
@@ -100,7 +99,7 @@ change_of before after i = record { index = i; old = record_at before i; new = r
 abbrev pub changes_at : List (List ℕ) → List (List ℕ) → List ℕ → List ChangedRecord
 changes_at before after [] = []
 changes_at before after (i ∷ more) =
-    unless_same (pointwise nat_eq (record_at before i) (record_at after i)) (change_of before after i) (changes_at before after more)
+    cond (pointwise nat_eq (record_at before i) (record_at after i)) (changes_at before after more) (change_of before after i ∷ changes_at before after more)
 
 -- the changes from one list of records to another of equal length: of each record that differs,
 -- ascending

@@ -12,11 +12,6 @@ use Rattle.digit_pack.specs.Slots.{is_form, is_slotted, slot_of, is_slot, conten
 abbrev pub shape_at : Plan → ℕ → Shape
 shape_at p count = shape_in p.form p.width p.record_len p.groups count
 
--- the plan of a form, a shape, a dimension and a public seed
-abbrev pub plan_of : ℕ → Shape → ℕ → List ℕ → Plan
-plan_of form l dimension seed =
-    record { form = form; width = l.width; record_len = l.record_len; groups = l.groups; dimension = dimension; seed = seed }
-
 -- a plan and a count of records within every limit
 pub record IsPlan (p : Plan) (count : ℕ) : Type 0 where
   pub form : is_form p.form p.record_len ≡ true

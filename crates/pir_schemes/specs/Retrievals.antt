@@ -1,12 +1,11 @@
 -- Hints, queries and answers, by scheme.
 use Rattle.std.specs.Prelude.{ℕ, ◌*◌, List, length}
-use Rattle.matrix_u32.specs.Matrix.{WordMatrix}
+use Rattle.matrix_u32.specs.Matrix.{WordMatrix, product}
 use Rattle.lane_kernels.specs.Digit.{split_count}
 use Rattle.digit_pack.specs.Layout.{Shape, digit_rows, digit_cols}
-use Rattle.simple_scheme.specs.Simple.{hint_of, simple_query, simple_answer, simple_reading, IsQuietRetrieval}
+use Rattle.simple_scheme.specs.Simple.{simple_query, simple_answer, simple_reading, IsQuietRetrieval}
 use Rattle.double_scheme.specs.Double.{
   server_hint_of,
-  client_hint_of,
   double_query_count,
   double_query,
   double_answer_count,
@@ -50,9 +49,9 @@ server_hint p records =
 -- the hint of a version that a client fetches, made from scratch
 unfoldable pub hint_matrix : Scheme → Plan → List (List ℕ) → WordMatrix
 hint_matrix Simple p records =
-    hint_of (digits_at p records) (first_public (shape_at p (length records)) p.dimension p.seed)
+    product (digits_at p records) (first_public (shape_at p (length records)) p.dimension p.seed)
 hint_matrix Double p records =
-    client_hint_of (server_hint p records) (second_public (shape_at p (length records)) p.dimension p.seed)
+    product (server_hint p records) (second_public (shape_at p (length records)) p.dimension p.seed)
 
 -- the words of retrieval `number` of a client's seed, for record i
 unfoldable pub query_words : Scheme → Shape → ℕ → List ℕ → List ℕ → ℕ → ℕ → List ℕ

@@ -35,7 +35,7 @@ pub record Setting : Type 0 where
 abbrev pub setting_of : StoreState → Setting
 setting_of s = record { plan = s.edition.plan; publisher = s.publisher }
 
--- whether a setting is that of a wide database, whose streams have two kinds of frames more
+-- whether a setting is that of a wide store, whose streams have two kinds of frames more
 abbrev pub is_wide_setting : Setting → Bool
 is_wide_setting x = is_wide x.plan.form
 
@@ -213,7 +213,7 @@ outcome_of_frame x h st Publish =
     else record { reply = Some (Done (current_version h + 1)); standing = st; history = published h })
     else refuses refusal.NothingToPublish st h)
 outcome_of_frame x h st (ChangesAsk since) =
-    if is_wide_setting x then to_reader st h (changes_asked x h st since (changes_since x.plan h since (most_changes x)))
+    if is_wide x.plan.form then to_reader st h (changes_asked x h st since (changes_since x.plan h since (most_changes x)))
     else refuses refusal.BadFrame Closed h
 outcome_of_frame x h st Bye = record { reply = None; standing = Closed; history = h }
 outcome_of_frame x h st _ = refuses refusal.BadFrame Closed h

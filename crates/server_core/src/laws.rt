@@ -86,7 +86,7 @@ pub fn feeds_are_alike()
 }
 
 /// No reply has a kind of frame that the session's stream doesn't have: an ordinary session gets
-/// none of those of a wide database.
+/// none of those of a wide store.
 pub fn replies_have_known_kinds()
     ensures { RepliesHaveKnownKinds }
 {}

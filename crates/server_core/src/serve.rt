@@ -142,7 +142,7 @@ fn serve_delta_ask<K: Kernel>(
     put_delta(store, since, &rows, room, out);
 }
 
-/// Whether the streams of a store's sessions have the frames of a wide database.
+/// Whether the streams of a store's sessions have the frames of a wide store.
 pub fn has_wide_frames<K: Kernel>(store: &Store<K>) -> bool
     ensures { result ≡ is_wide_setting (setting_of store.now) }
 {

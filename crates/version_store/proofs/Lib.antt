@@ -28,3 +28,4 @@ pub mod OldsKept
 pub mod OldSlots
 pub mod ChangesSince
 pub mod ChangesMove
+pub mod Layouts

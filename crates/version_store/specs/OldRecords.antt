@@ -24,7 +24,7 @@ slots_with_blanks p n records = slots p (grown p n records)
 -- the old bytes of the records that a version changes of the one before it, with blanks for those
 -- that were appended
 unfoldable pub olds_replaced : Plan → List (List ℕ) → List (List ℕ) → List OldRecord
-olds_replaced p before after = olds_between (slots_with_blanks p (length after) before) (slots p after)
+olds_replaced p before after = map old_of (changes_between (slots_with_blanks p (length after) before) (slots p after))
 
 -- how many old bytes a store keeps at most: an eighth of the bytes of its SimplePIR hint, whose
 -- words have four

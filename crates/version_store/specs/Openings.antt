@@ -1,6 +1,6 @@
 -- What a store can be opened with.
 use Rattle.std.specs.Prelude.{◌≡◌, ◌≤◌, ℕ, List, [], length, true, false}
-use Rattle.digit_pack.specs.Layout.{IsLayout}
+use Rattle.digit_pack.specs.Layout.{is_layout}
 use Rattle.snapshot_file.specs.declared.snapshot.Header.{Header}
 use Rattle.std.specs.List.{flat_map}
 use Rattle.snapshot_file.specs.Snapshots.{shape_of, records_len, has_slots, hashed_bytes, snapshot_bytes, IsSnapshot}
@@ -9,13 +9,13 @@ use Rattle.digit_pack.specs.Slots.{is_form}
 use Rattle.version_store.specs.declared.opening.OpenError.{OpenError}
 use Rattle.version_store.specs.declared.opening.OpenError.TheVariants.{BadLayout, BadVersion, BadRecords, Memory}
 use Rattle.pir_schemes.specs.declared.plan.Plan.{Plan}
-use Rattle.pir_schemes.specs.Plans.{plan_of, records_held, slots}
+use Rattle.pir_schemes.specs.Plans.{records_held, slots}
 use Rattle.version_store.specs.Histories.{StoreState}
 
 -- a form that there is, a layout within its limits, and a dimension of 1 to 1024
 pub record HasSizes (h : Header) : Type 0 where
   pub form : is_form h.form h.record_len ≡ true
-  pub layout : IsLayout (shape_of h)
+  pub layout : is_layout (shape_of h) ≡ true
   pub low : 1 ≤ h.dimension
   pub high : h.dimension ≤ 1024
 
@@ -40,7 +40,7 @@ IsOpenFault h records Memory = IsSound h records
 
 -- what a snapshot says of every version
 abbrev pub plan_held : Header → Plan
-plan_held h = plan_of h.form (shape_of h) h.dimension h.seed
+plan_held h = record { form = h.form; width = h.width; record_len = h.record_len; groups = h.groups; dimension = h.dimension; seed = h.seed }
 
 -- the records that bytes hold for the fields of a snapshot
 abbrev pub records_for : Header → List ℕ → List (List ℕ)
