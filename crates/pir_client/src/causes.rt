@@ -31,7 +31,7 @@ fn cause_of_refusal(code: u8) -> &'static str {
         8 => "NothingToPublish: nothing was edited or appended since the last publication",
         9 => "VersionsUsedUp: there is no further version number",
         10 => "BadPart: the hint has no such part",
-        11 => "BadQueryLength: the query has another number of words than the store's",
+        11 => "BadQueryLength: the query has another number of words than the store takes",
         12 => "Memory: the server has no memory for this now; ask again",
         13 => "BadScheme: the server has no such scheme",
         14 => "Full: the store has room for no further record",

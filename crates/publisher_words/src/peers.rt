@@ -7,7 +7,7 @@ use std::fmt;
 use std::fmt::{Display, Formatter};
 
 const TO_TAKES: &str =
-    "--to takes HOST:PORT, PORT being a number from 1 to 65535; an IPv6 address stands in brackets";
+    "--to takes HOST:PORT, PORT being a number from 1 to 65535; an IPv6 address is in brackets";
 
 /// A server.
 #[derive(Clone, Copy, Debug, PartialEq, Eq)]

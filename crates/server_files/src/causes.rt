@@ -29,7 +29,8 @@ fn cause_of(failure: Failure) -> Option<&'static str> {
     };
     match name {
         "File" => Some(
-            "no file can be opened or made here, or a folder, a pipe or a device stands there",
+            "no file can be opened or made here, or there is a folder, a pipe or a device of \
+                that name",
         ),
         "Write" => Some("what was to be written is not on the disk, or could not be printed"),
         "Read" => Some("reading failed"),
@@ -38,7 +39,7 @@ fn cause_of(failure: Failure) -> Option<&'static str> {
                 terminal",
         ),
         "Locked" => Some("another process serves or replaces it"),
-        "Exists" => Some("a file stands there, and --new replaces none"),
+        "Exists" => Some("there is a file of that name, and --new replaces none"),
         "NotSnapshot" => Some("not a snapshot"),
         "BadLayout" => Some("the snapshot's layout, dimension or version is outside the limits"),
         "Short" => Some("the snapshot is cut short"),

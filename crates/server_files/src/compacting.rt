@@ -49,7 +49,7 @@ pub struct Compacted {
 pub fn compact_pair<R: FileSystem>(rt: &R, name: &str) -> Result<Compacted, Failure> {
     let mut file = OwnFile::to_read(rt, name)?;
     let kept = kept_file(rt, &mut file, None)?;
-    // What one that was cut short left is removed, also if there is nothing to do.
+    // What a compaction that was cut short left is removed, even if there is no log to shorten.
     remove_other_logs(rt, file.name(), kept.own.name.as_str());
     match read_own(rt, &kept.own)? {
         Some(log) => compact_both(rt, &mut file, kept, &log),

@@ -173,9 +173,10 @@ const WIDEN: CommandText = CommandText {
 const REKEY: CommandText = CommandText {
     name: "rekey",
     about: "Gives a snapshot file another publisher's key, while no server serves it",
-    example: "Prints 'rekeyed COUNT VERSION'. Records, version and seed stay, so all hints stay \
-        good. The old key is of no use from\n\
-        then on.\n\n\
+    example: "Prints 'rekeyed COUNT VERSION'. Records, version and seed are as before, so that \
+        hints of this version remain good;\n\
+        whoever has an earlier one fetches a whole hint. The old key is of no use from then \
+        on.\n\n\
         Example: pir_server rekey --file two.pir --key @key.txt\n\n\
         With --verbose a fault has a second line, 'cause: TEXT', that says what failed and where.",
     arguments: &[

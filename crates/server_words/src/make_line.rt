@@ -79,7 +79,7 @@ pub const MAKE: CommandText = CommandText {
         },
         Argument::Flag {
             name: "new",
-            help: "Makes no file where something stands at its name",
+            help: "Makes no file if there is something of that name",
         },
         Argument::Optional {
             name: "form",

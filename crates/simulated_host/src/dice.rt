@@ -30,12 +30,12 @@ impl Dice {
         (self.number() % end as u64) as usize
     }
 
-    /// Whether something happens that happens one time in so many.
-    pub fn one_in(&mut self, odds: usize) -> bool {
-        self.below(odds) == 0
+    /// Whether something happens that happens one time in `count`.
+    pub fn one_in(&mut self, count: usize) -> bool {
+        self.below(count) == 0
     }
 
-    /// All of so many, mostly; else some of them, and one at least.
+    /// All of so many, mostly; else some of them, and one at least (and one even of none).
     pub fn some_of(&mut self, count: usize) -> usize {
         if self.one_in(4) {
             self.below(count).saturating_add(1)
