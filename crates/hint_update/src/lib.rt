@@ -24,7 +24,7 @@ mod words;
 use digit_pack::{DigitStore, split_count, word_digit};
 pub use log::DeltaLog;
 use matrix_u32::{Kernel, Matrix};
-pub use rows::{RowsBuffers, update_double_rows};
+pub use rows::{NewRows, RowsBuffers, update_double_rows};
 pub use words::WordsBuffers;
 
 /// Changes the hint of a digit matrix as the digit in row `row`, column `col` changes from `old` to

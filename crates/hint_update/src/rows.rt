@@ -21,6 +21,23 @@ const BLOCK_ROWS: usize = 32;
 // How many rows of the public matrix pass at a time.
 const PASSING_ROWS: usize = 4;
 
+/// New rows of D A1: those of `hint` that `listed` names, ascending. The digits of their words have
+/// w bits.
+#[derive(Clone, Copy)]
+pub struct NewRows<'a> {
+    pub hint: &'a Matrix,
+    pub w: u32,
+    pub listed: &'a [usize],
+}
+
+/// Rows of the server's hint and of the client's that change together: `count` of them, from row
+/// `first` on.
+#[derive(Clone, Copy)]
+pub(crate) struct RowBlock {
+    pub(crate) first: usize,
+    pub(crate) count: usize,
+}
+
 /// Memory for rows that [`update_double_rows`] takes together, made for digits of w bits: copies of
 /// their rows of the second public matrix, one beside the other, for some rows of the client's hint
 /// the changes of their digits, those of one column as they come and as they were, and what
@@ -71,10 +88,10 @@ impl RowsBuffers {
     }
 }
 
-/// Changes both hints of DoublePIR as several rows of the digit matrix D change: those of `listed`,
-/// which ascend. The listed rows of `hint` are the new rows of D A1. What
-/// [`update_double`](crate::update_double) does for each of them is done here in one pass over the
-/// hints, so that each row of the client's hint is read and written while it is near the processor.
+/// Changes both hints of DoublePIR as several rows of the digit matrix D change: those that are
+/// listed with the new rows of D A1. What [`update_double`](crate::update_double) does for each of
+/// them is done here in one pass over the hints, so that each row of the client's hint is read and
+/// written while it is near the processor.
 ///
 /// For every D and A1 from which both hints were made before, they are now made from D with its new
 /// rows. Whatever they were made from, all other columns of the server's hint stay. Takes no
@@ -84,49 +101,54 @@ pub fn update_double_rows<K: Kernel, S: DigitStore>(
     server_hint: &mut S,
     client_hint: &mut Matrix,
     a2: &Matrix,
-    w: u32,
-    hint: &Matrix,
-    listed: &[usize],
+    new_rows: &NewRows<'_>,
     room: &mut RowsBuffers,
 )
-    requires width { (6 ≤ w) × (w ≤ 10) }
-    requires listed { AreRowsBelow hint.now.rows listed.now }
-    requires server_rows { (S.digits server_hint.old).rows ≡ hint.now.cols * split_count w }
-    requires server_cols { (S.digits server_hint.old).cols ≡ hint.now.rows }
+    requires width { (6 ≤ new_rows.now.w) × (new_rows.now.w ≤ 10) }
+    requires listed { AreRowsBelow new_rows.now.hint.now.rows new_rows.now.listed.now }
+    requires server_rows { (S.digits server_hint.old).rows
+        ≡ new_rows.now.hint.now.cols * split_count new_rows.now.w }
+    requires server_cols { (S.digits server_hint.old).cols ≡ new_rows.now.hint.now.rows }
     requires client_rows { client_hint.old.rows ≡ (S.digits server_hint.old).rows }
     requires client_cols { client_hint.old.cols ≡ a2.now.cols }
     requires rows { a2.now.rows ≡ (S.digits server_hint.old).cols }
-    requires few { length listed.now ≤ room.old.public.rows }
+    requires few { length new_rows.now.listed.now ≤ room.old.public.rows }
     requires room { IsRowsBuffers room.old.public.rows a2.now.cols room.old }
-    ensures follows { FollowsListed w hint.now a2.now (S.digits server_hint.old)
-        (S.digits server_hint.new) client_hint.old client_hint.new listed.now }
-    ensures server { TakesRows w hint.now (S.digits server_hint.old) (S.digits server_hint.new)
-        listed.now }
+    ensures follows { FollowsListed new_rows.now.w new_rows.now.hint.now a2.now
+        (S.digits server_hint.old) (S.digits server_hint.new) client_hint.old client_hint.new
+        new_rows.now.listed.now }
+    ensures server { TakesRows new_rows.now.w new_rows.now.hint.now (S.digits server_hint.old)
+        (S.digits server_hint.new) new_rows.now.listed.now }
     ensures client { client_hint.new ≡ moved_by_rows client_hint.old (S.digits server_hint.old)
-        (S.digits server_hint.new) a2.now listed.now }
+        (S.digits server_hint.new) a2.now new_rows.now.listed.now }
     ensures room { IsRowsBuffers room.old.public.rows a2.now.cols room.new }
 {
+    let listed = new_rows.listed;
     copy_rows(a2, listed, &mut room.public);
     clear_rows(&mut room.public, listed.len());
-    room.words
-        .guess(kernel, server_hint, hint, w, listed, &room.public);
+    room.words.guess(
+        kernel,
+        server_hint,
+        new_rows.hint,
+        new_rows.w,
+        listed,
+        &room.public,
+    );
     let rows = server_hint.rows();
     client_hint.rows();
     let mut first = 0;
     while first < rows {
         let count = room.changes.rows().min(rows - first);
+        let block = RowBlock { first, count };
         replace_digits(
             server_hint,
-            hint,
-            w,
-            listed,
-            first,
-            count,
+            new_rows,
+            block,
             &mut room.new_digits,
             &mut room.old_digits,
             &mut room.changes,
         );
-        add_changed(kernel, client_hint, first, count, listed.len(), room);
+        add_changed(kernel, client_hint, block, listed.len(), room);
         first += count;
     }
 }
@@ -159,33 +181,31 @@ fn clear_rows(m: &mut Matrix, from: usize)
     }
 }
 
-// Writes into `count` rows of the server's hint, from row `first` on, the digits of the listed rows
-// of the hint, and puts the change of each into `changes`. The other two have room for a column of
-// digits each.
+// Writes into a block of rows of the server's hint the digits of the new rows, and puts the change
+// of each into `changes`. The other two have room for a column of digits each.
 fn replace_digits<S: DigitStore>(
     server_hint: &mut S,
-    hint: &Matrix,
-    w: u32,
-    listed: &[usize],
-    first: usize,
-    count: usize,
+    new_rows: &NewRows<'_>,
+    block: RowBlock,
     new_digits: &mut [u32],
     old_digits: &mut [u32],
     changes: &mut Matrix,
 )
-    requires width { (6 ≤ w) × (w ≤ 10) }
-    requires listed { AreRowsBelow hint.now.rows listed.now }
-    requires block { first + count ≤ (S.digits server_hint.old).rows }
-    requires server_rows { (S.digits server_hint.old).rows ≡ hint.now.cols * split_count w }
-    requires server_cols { (S.digits server_hint.old).cols ≡ hint.now.rows }
-    requires new_room { count ≤ length new_digits.old }
-    requires old_room { count ≤ length old_digits.old }
-    requires changes_rows { count ≤ changes.old.rows }
-    requires changes_cols { length listed.now ≤ changes.old.cols }
-    ensures server { TakesBlock w hint.now (S.digits server_hint.old) (S.digits server_hint.new)
-        listed.now first count }
-    ensures changes { (b k : ℕ) → b < count → k < length listed.now → entry changes.new b k
-        ≡ digit_change w hint.now (S.digits server_hint.old) listed.now (first + b) k }
+    requires width { (6 ≤ new_rows.now.w) × (new_rows.now.w ≤ 10) }
+    requires listed { AreRowsBelow new_rows.now.hint.now.rows new_rows.now.listed.now }
+    requires block { block.first + block.count ≤ (S.digits server_hint.old).rows }
+    requires server_rows { (S.digits server_hint.old).rows
+        ≡ new_rows.now.hint.now.cols * split_count new_rows.now.w }
+    requires server_cols { (S.digits server_hint.old).cols ≡ new_rows.now.hint.now.rows }
+    requires new_room { block.count ≤ length new_digits.old }
+    requires old_room { block.count ≤ length old_digits.old }
+    requires changes_rows { block.count ≤ changes.old.rows }
+    requires changes_cols { length new_rows.now.listed.now ≤ changes.old.cols }
+    ensures server { TakesBlock new_rows.now.w new_rows.now.hint.now (S.digits server_hint.old)
+        (S.digits server_hint.new) new_rows.now.listed.now block.first block.count }
+    ensures changes { (b k : ℕ) → b < block.count → k < length new_rows.now.listed.now →
+        entry changes.new b k ≡ digit_change new_rows.now.w new_rows.now.hint.now
+        (S.digits server_hint.old) new_rows.now.listed.now (block.first + b) k }
     ensures rows { changes.new.rows ≡ changes.old.rows }
     ensures cols { changes.new.cols ≡ changes.old.cols }
     ensures new_count { length new_digits.new ≡ length new_digits.old }
@@ -193,10 +213,19 @@ fn replace_digits<S: DigitStore>(
 {
     server_hint.rows();
     changes.rows();
-    let new = &mut new_digits[..count];
-    let old = &mut old_digits[..count];
-    for k in 0..listed.len() {
-        take_column(server_hint, hint, w, listed[k], first, new, old);
+    let new = &mut new_digits[..block.count];
+    let old = &mut old_digits[..block.count];
+    for k in 0..new_rows.listed.len() {
+        let col = new_rows.listed[k];
+        take_column(
+            server_hint,
+            new_rows.hint,
+            new_rows.w,
+            col,
+            block.first,
+            new,
+            old,
+        );
         put_differences(new, old, k, changes);
     }
 }
@@ -286,30 +315,30 @@ fn next_place(word: usize, place: usize, step: usize) -> (usize, usize)
     }
 }
 
-// Adds to `count` rows of the client's hint, from row `first` on, the first n rows of the public
-// matrix, each times its factor.
+// Adds to a block of rows of the client's hint the first n rows of the public matrix, each times
+// its factor.
 pub(crate) fn add_block<K: Kernel>(
     kernel: K,
     client_hint: &mut Matrix,
-    first: usize,
-    count: usize,
+    block: RowBlock,
     n: usize,
     factors: &Matrix,
     public: &Matrix,
 )
-    requires block { first + count ≤ client_hint.old.rows }
-    requires factors_rows { count ≤ factors.now.rows }
+    requires block { block.first + block.count ≤ client_hint.old.rows }
+    requires factors_rows { block.count ≤ factors.now.rows }
     requires factors_cols { n ≤ factors.now.cols }
     requires rows { n ≤ public.now.rows }
     requires cols { client_hint.old.cols ≡ public.now.cols }
-    ensures { AddsRows client_hint.old client_hint.new first count factors.now public.now 0 n }
+    ensures { AddsRows client_hint.old client_hint.new block.first block.count
+        factors.now public.now 0 n }
 {
     // The first time even if there are none: then no word changes.
     let mut t = PASSING_ROWS.min(n);
-    add_passing(kernel, client_hint, first, count, 0, t, factors, public);
+    add_passing(kernel, client_hint, block, 0, t, factors, public);
     while t < n {
         let some = PASSING_ROWS.min(n - t);
-        add_passing(kernel, client_hint, first, count, t, some, factors, public);
+        add_passing(kernel, client_hint, block, t, some, factors, public);
         t += some;
     }
 }
@@ -318,26 +347,27 @@ pub(crate) fn add_block<K: Kernel>(
 fn add_passing<K: Kernel>(
     kernel: K,
     client_hint: &mut Matrix,
-    first: usize,
-    count: usize,
+    block: RowBlock,
     t: usize,
     n: usize,
     factors: &Matrix,
     public: &Matrix,
 )
-    requires block { first + count ≤ client_hint.old.rows }
-    requires factors_rows { count ≤ factors.now.rows }
+    requires block { block.first + block.count ≤ client_hint.old.rows }
+    requires factors_rows { block.count ≤ factors.now.rows }
     requires factors_cols { t + n ≤ factors.now.cols }
     requires rows { t + n ≤ public.now.rows }
     requires cols { client_hint.old.cols ≡ public.now.cols }
-    ensures { AddsRows client_hint.old client_hint.new first count factors.now public.now t n }
+    ensures { AddsRows client_hint.old client_hint.new block.first block.count
+        factors.now public.now t n }
 {
     client_hint.rows();
     factors.rows();
     public.rows();
-    for b in 0..count {
+    for b in 0..block.count {
         let changes = &factors.row(b)[t..t + n];
-        add_changes(kernel, client_hint.row_mut(first + b), changes, public, t);
+        let out = client_hint.row_mut(block.first + b);
+        add_changes(kernel, out, changes, public, t);
     }
 }
 

@@ -22,7 +22,7 @@ ghost use Rattle.hint_update.specs.Words.{word_change, IsFewestZeros, IsLeastPow
 ghost use Rattle.hint_update.specs.Words.{IsFirstEnding};
 ghost use Rattle.hint_update.specs.Words.{AreFirstChanges, IsGuessFor};
 
-use crate::rows::{RowsBuffers, add_block, add_changes, are_zero};
+use crate::rows::{RowBlock, RowsBuffers, add_block, add_changes, are_zero};
 use digit_pack::{DigitStore, split_count};
 use matrix_u32::{Kernel, Matrix};
 use std::alloc::{AllocError, Global};
@@ -324,55 +324,43 @@ fn shifted(x: u32, bits: u32) -> u32
     if bits < u32::BITS { x >> bits } else { 0 }
 }
 
-/// Adds to `count` rows of the client's hint, from row `first` on, the public rows, each times the
-/// change of its digit. If the changes are those of whole words that follow the guessed list, only
-/// those of their higher digits are multiplied.
+/// Adds to a block of rows of the client's hint the public rows, each times the change of its
+/// digit. If the changes are those of whole words that follow the guessed list, only those of their
+/// higher digits are multiplied.
 pub(crate) fn add_changed<K: Kernel>(
     kernel: K,
     client_hint: &mut Matrix,
-    first: usize,
-    count: usize,
+    block: RowBlock,
     n: usize,
     room: &mut RowsBuffers,
 )
-    requires block { first + count ≤ client_hint.old.rows }
-    requires rows { count ≤ room.old.changes.rows }
+    requires block { block.first + block.count ≤ client_hint.old.rows }
+    requires rows { block.count ≤ room.old.changes.rows }
     requires few { n ≤ room.old.public.rows }
     requires cols { client_hint.old.cols ≡ room.old.public.cols }
     requires room { IsRowsBuffers room.old.public.rows room.old.public.cols room.old }
     requires cleared { (k q : ℕ) → n ≤ k → k < room.old.public.rows → q < room.old.public.cols →
         entry room.old.public k q ≡ 0 }
     requires combined { HasCombined room.old.public room.old.words }
-    ensures added { AddsRows client_hint.old client_hint.new first count
+    ensures added { AddsRows client_hint.old client_hint.new block.first block.count
         room.old.changes room.old.public 0 n }
     ensures public { room.new.public ≡ room.old.public }
     ensures changes { room.new.changes ≡ room.old.changes }
     ensures combined { HasCombined room.new.public room.new.words }
     ensures room { IsRowsBuffers room.old.public.rows room.old.public.cols room.new }
 {
-    if takes_words(kernel, count, n, room) {
+    if takes_words(kernel, block.count, n, room) {
         multiply_higher(kernel, &room.changes, &room.public, &mut room.words);
-        add_words(
-            kernel,
-            client_hint,
-            first,
-            count,
+        let changed = ChangedWords {
+            count: block.count,
             n,
-            &room.changes,
-            &room.public,
-            &room.words,
-            &mut room.sums,
-        );
+            changes: &room.changes,
+            public: &room.public,
+            words: &room.words,
+        };
+        add_words(kernel, client_hint, block.first, &changed, &mut room.sums);
     } else {
-        add_block(
-            kernel,
-            client_hint,
-            first,
-            count,
-            n,
-            &room.changes,
-            &room.public,
-        );
+        add_block(kernel, client_hint, block, n, &room.changes, &room.public);
     }
 }
 
@@ -469,39 +457,47 @@ fn put_higher(changes: &Matrix, step: usize, higher: &mut Matrix)
     }
 }
 
-// Adds to `count` rows of the client's hint what the changes of whole words add.
+// Changes of whole words: those of their digits are in the first `count` rows of `changes`, and the
+// first n public rows are those of the listed rows. `words` has the products of the higher digits.
+#[derive(Clone, Copy)]
+struct ChangedWords<'a> {
+    count: usize,
+    n: usize,
+    changes: &'a Matrix,
+    public: &'a Matrix,
+    words: &'a WordsBuffers,
+}
+
+// Adds to rows of the client's hint, from row `first` on, what the changes of whole words add.
 fn add_words<K: Kernel>(
     kernel: K,
     client_hint: &mut Matrix,
     first: usize,
-    count: usize,
-    n: usize,
-    changes: &Matrix,
-    public: &Matrix,
-    words: &WordsBuffers,
+    changed: &ChangedWords<'_>,
     sums: &mut [u32],
 )
-    requires block { first + count ≤ client_hint.old.rows }
-    requires rows { count ≤ changes.now.rows }
-    requires few { n ≤ public.now.rows }
-    requires client_cols { client_hint.old.cols ≡ public.now.cols }
-    requires changes_cols { changes.now.cols ≡ public.now.rows }
-    requires cleared { (k q : ℕ) → n ≤ k → k < public.now.rows → q < public.now.cols →
-        entry public.now k q ≡ 0 }
-    requires room { IsWordsBuffers public.now.rows public.now.cols words.now }
-    requires combined { HasCombined public.now words.now }
-    requires products { HasHigherProducts (length words.now.weights.items) changes.now public.now
-        words.now.products }
-    requires words { AreWholeWords count words.now }
-    requires sums { length sums.old ≡ changes.now.cols }
-    ensures added { AddsRows client_hint.old client_hint.new first count
-        changes.now public.now 0 n }
+    requires block { first + changed.now.count ≤ client_hint.old.rows }
+    requires rows { changed.now.count ≤ changed.now.changes.now.rows }
+    requires few { changed.now.n ≤ changed.now.public.now.rows }
+    requires client_cols { client_hint.old.cols ≡ changed.now.public.now.cols }
+    requires changes_cols { changed.now.changes.now.cols ≡ changed.now.public.now.rows }
+    requires cleared { (k q : ℕ) → changed.now.n ≤ k → k < changed.now.public.now.rows →
+        q < changed.now.public.now.cols → entry changed.now.public.now k q ≡ 0 }
+    requires room { IsWordsBuffers changed.now.public.now.rows changed.now.public.now.cols
+        changed.now.words.now }
+    requires combined { HasCombined changed.now.public.now changed.now.words.now }
+    requires products { HasHigherProducts (length changed.now.words.now.weights.items)
+        changed.now.changes.now changed.now.public.now changed.now.words.now.products }
+    requires words { AreWholeWords changed.now.count changed.now.words.now }
+    requires sums { length sums.old ≡ changed.now.changes.now.cols }
+    ensures added { AddsRows client_hint.old client_hint.new first changed.now.count
+        changed.now.changes.now changed.now.public.now 0 changed.now.n }
     ensures sums { length sums.new ≡ length sums.old }
 {
     client_hint.rows();
-    for i in 0..count {
+    for i in 0..changed.count {
         let out = client_hint.row_mut(first + i);
-        add_row(kernel, out, i, count, n, changes, public, words, sums);
+        add_row(kernel, out, i, changed, sums);
     }
 }
 
@@ -510,33 +506,31 @@ fn add_row<K: Kernel>(
     kernel: K,
     out: &mut [u32],
     i: usize,
-    count: usize,
-    n: usize,
-    changes: &Matrix,
-    public: &Matrix,
-    words: &WordsBuffers,
+    changed: &ChangedWords<'_>,
     sums: &mut [u32],
 )
-    requires row { i < count }
-    requires rows { count ≤ changes.now.rows }
-    requires few { n ≤ public.now.rows }
-    requires out { length out.old ≡ public.now.cols }
-    requires changes_cols { changes.now.cols ≡ public.now.rows }
-    requires cleared { (k q : ℕ) → n ≤ k → k < public.now.rows → q < public.now.cols →
-        entry public.now k q ≡ 0 }
-    requires room { IsWordsBuffers public.now.rows public.now.cols words.now }
-    requires combined { HasCombined public.now words.now }
-    requires products { HasHigherProducts (length words.now.weights.items) changes.now public.now
-        words.now.products }
-    requires words { AreWholeWords count words.now }
-    requires sums { length sums.old ≡ changes.now.cols }
-    ensures added { IsRowAdded out.old out.new changes.now public.now i }
+    requires row { i < changed.now.count }
+    requires rows { changed.now.count ≤ changed.now.changes.now.rows }
+    requires few { changed.now.n ≤ changed.now.public.now.rows }
+    requires out { length out.old ≡ changed.now.public.now.cols }
+    requires changes_cols { changed.now.changes.now.cols ≡ changed.now.public.now.rows }
+    requires cleared { (k q : ℕ) → changed.now.n ≤ k → k < changed.now.public.now.rows →
+        q < changed.now.public.now.cols → entry changed.now.public.now k q ≡ 0 }
+    requires room { IsWordsBuffers changed.now.public.now.rows changed.now.public.now.cols
+        changed.now.words.now }
+    requires combined { HasCombined changed.now.public.now changed.now.words.now }
+    requires products { HasHigherProducts (length changed.now.words.now.weights.items)
+        changed.now.changes.now changed.now.public.now changed.now.words.now.products }
+    requires words { AreWholeWords changed.now.count changed.now.words.now }
+    requires sums { length sums.old ≡ changed.now.changes.now.cols }
+    ensures added { IsRowAdded out.old out.new changed.now.changes.now changed.now.public.now i }
     ensures sums { length sums.new ≡ length sums.old }
 {
+    let words = changed.words;
     let weights: &[u32] = &words.weights;
     let step = weights.len();
     if i % step == 0 {
-        add_lowest(kernel, out, i, count, n, changes, public, words, sums);
+        add_lowest(kernel, out, i, changed, sums);
     } else {
         kernel.add_scaled(out, words.products.row(i - i / step - 1), 1);
     }
@@ -548,37 +542,35 @@ fn add_lowest<K: Kernel>(
     kernel: K,
     out: &mut [u32],
     i: usize,
-    count: usize,
-    n: usize,
-    changes: &Matrix,
-    public: &Matrix,
-    words: &WordsBuffers,
+    changed: &ChangedWords<'_>,
     sums: &mut [u32],
 )
-    requires row { i < count }
-    requires lowest { i % length words.now.weights.items ≡ 0 }
-    requires rows { count ≤ changes.now.rows }
-    requires few { n ≤ public.now.rows }
-    requires out { length out.old ≡ public.now.cols }
-    requires changes_cols { changes.now.cols ≡ public.now.rows }
-    requires cleared { (k q : ℕ) → n ≤ k → k < public.now.rows → q < public.now.cols →
-        entry public.now k q ≡ 0 }
-    requires room { IsWordsBuffers public.now.rows public.now.cols words.now }
-    requires combined { HasCombined public.now words.now }
-    requires products { HasHigherProducts (length words.now.weights.items) changes.now public.now
-        words.now.products }
-    requires words { AreWholeWords count words.now }
-    requires sums { length sums.old ≡ changes.now.cols }
-    ensures added { IsRowAdded out.old out.new changes.now public.now i }
+    requires row { i < changed.now.count }
+    requires lowest { i % length changed.now.words.now.weights.items ≡ 0 }
+    requires rows { changed.now.count ≤ changed.now.changes.now.rows }
+    requires few { changed.now.n ≤ changed.now.public.now.rows }
+    requires out { length out.old ≡ changed.now.public.now.cols }
+    requires changes_cols { changed.now.changes.now.cols ≡ changed.now.public.now.rows }
+    requires cleared { (k q : ℕ) → changed.now.n ≤ k → k < changed.now.public.now.rows →
+        q < changed.now.public.now.cols → entry changed.now.public.now k q ≡ 0 }
+    requires room { IsWordsBuffers changed.now.public.now.rows changed.now.public.now.cols
+        changed.now.words.now }
+    requires combined { HasCombined changed.now.public.now changed.now.words.now }
+    requires products { HasHigherProducts (length changed.now.words.now.weights.items)
+        changed.now.changes.now changed.now.public.now changed.now.words.now.products }
+    requires words { AreWholeWords changed.now.count changed.now.words.now }
+    requires sums { length sums.old ≡ changed.now.changes.now.cols }
+    ensures added { IsRowAdded out.old out.new changed.now.changes.now changed.now.public.now i }
     ensures sums { length sums.new ≡ length sums.old }
 {
-    changes.rows();
-    if let Some(factor) = factor_of_word(kernel, i, n, changes, words, sums) {
+    let words = changed.words;
+    changed.changes.rows();
+    if let Some(factor) = factor_of_word(kernel, i, changed.n, changed.changes, words, sums) {
         let weights: &[u32] = &words.weights;
         let higher = i - i / weights.len();
         kernel.add_rows(out, &weights[1..], &words.products, higher);
         kernel.add_scaled(out, &words.combined, factor);
     } else {
-        kernel.add_rows(out, changes.row(i), public, 0);
+        kernel.add_rows(out, changed.changes.row(i), changed.public, 0);
     }
 }

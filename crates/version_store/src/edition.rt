@@ -21,7 +21,7 @@ use crate::drafts::{Changes, apply_changes};
 use crate::first_layer::{self, Digits, FirstLayer};
 use crate::held_records::HeldRecords;
 use crate::preparing::{Preparation, Preparations};
-use crate::rows::{FollowBuffers, follow_rows};
+use crate::rows::{FollowBuffers, MarkedRows, follow_rows};
 use digit_pack::{DigitStore, Layout};
 use matrix_u32::{Kernel, Matrix};
 use pir_schemes::{Plan, Scheme};
@@ -319,14 +319,17 @@ impl<K: Kernel> Edition<K> {
         self.prepared.clear();
         apply_changes(self.kernel, &mut self.layer, changes, scratch, marks);
         let w = self.layer.layout().width();
+        let marked = MarkedRows {
+            hint: self.layer.hint(),
+            w,
+            marks,
+        };
         follow_rows(
             self.kernel,
-            self.layer.hint(),
+            &marked,
             &self.a2,
-            w,
             &mut self.server,
             &mut self.client,
-            marks,
             rows,
         );
     }

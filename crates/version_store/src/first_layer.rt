@@ -18,7 +18,7 @@ ghost use Rattle.version_store.specs.Editions.{Records, version_shape, MarksChan
 ghost use Rattle.version_store.specs.HeldRecords.{bytes_held_by, is_in_digits, HasShape};
 ghost use Rattle.version_store.specs.Openings.{bytes_of_records};
 
-use crate::columns::replace_digits;
+use crate::columns::replace_in_column;
 use crate::held_records::HeldRecords;
 use digit_pack::{
     DigitStore, Layout, Wide3, copy_record, is_wide, nth_record, pack, record_buffer, write_record,
@@ -327,13 +327,12 @@ impl FirstLayer {
         self.plan.fill(bytes, slot);
         keep_record(self.plan.form, &self.layout, &mut self.kept, i, slot);
         pack(&self.layout, slot, scratch);
-        replace_digits(
+        replace_in_column(
             kernel,
             &mut self.digits,
             &mut self.hint,
             &self.a1,
-            first,
-            col,
+            (first, col),
             scratch,
             marks,
         );

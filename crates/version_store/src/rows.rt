@@ -8,7 +8,7 @@ ghost use Rattle.version_store.specs.Editions.{FollowsRows, is_marked};
 ghost use Rattle.version_store.specs.Buffers.{IsRoomForRows};
 
 use digit_pack::DigitStore;
-use hint_update::{RowsBuffers, update_double_rows};
+use hint_update::{NewRows, RowsBuffers, update_double_rows};
 use matrix_u32::{Kernel, Matrix};
 use std::alloc::{AllocError, Global};
 
@@ -40,45 +40,50 @@ impl FollowBuffers {
     }
 }
 
-/// Changes both hints of DoublePIR by the rows that are marked, each once, where `hint` is the hint
-/// of the changed digits. Nothing is multiplied for the other rows. Marked rows are taken together,
-/// wherever they are, up to 128 of them at a time.
+/// Rows that changed: those of `hint`, the hint of the changed digits, that are marked. The digits
+/// of its words have w bits.
+#[derive(Clone, Copy)]
+pub struct MarkedRows<'a> {
+    pub hint: &'a Matrix,
+    pub w: u32,
+    pub marks: &'a [bool],
+}
+
+/// Changes both hints of DoublePIR by the rows that are marked, each once. Nothing is multiplied
+/// for the other rows. Marked rows are taken together, wherever they are, up to 128 of them at a
+/// time.
 pub fn follow_rows<K: Kernel, S: DigitStore>(
     kernel: K,
-    hint: &Matrix,
+    marked: &MarkedRows<'_>,
     a2: &Matrix,
-    w: u32,
     server: &mut S,
     client: &mut Matrix,
-    marks: &[bool],
     room: &mut FollowBuffers,
 )
-    requires width { (6 ≤ w) × (w ≤ 10) }
-    requires marks { length marks.now ≡ hint.now.rows }
-    requires second_rows { a2.now.rows ≡ hint.now.rows }
-    requires second_cols { a2.now.cols ≡ hint.now.cols }
-    requires server_rows { (S.digits server.old).rows ≡ hint.now.cols * split_count w }
-    requires server_cols { (S.digits server.old).cols ≡ hint.now.rows }
-    requires client_rows { client.old.rows ≡ hint.now.cols * split_count w }
-    requires client_cols { client.old.cols ≡ hint.now.cols }
-    requires room { IsRoomForRows hint.now.cols room.old }
-    ensures { FollowsRows w hint.now a2.now (S.digits server.old) (S.digits server.new)
-        client.old client.new marks.now }
+    requires width { (6 ≤ marked.now.w) × (marked.now.w ≤ 10) }
+    requires marks { length marked.now.marks.now ≡ marked.now.hint.now.rows }
+    requires second_rows { a2.now.rows ≡ marked.now.hint.now.rows }
+    requires second_cols { a2.now.cols ≡ marked.now.hint.now.cols }
+    requires server_rows { (S.digits server.old).rows
+        ≡ marked.now.hint.now.cols * split_count marked.now.w }
+    requires server_cols { (S.digits server.old).cols ≡ marked.now.hint.now.rows }
+    requires client_rows { client.old.rows
+        ≡ marked.now.hint.now.cols * split_count marked.now.w }
+    requires client_cols { client.old.cols ≡ marked.now.hint.now.cols }
+    requires room { IsRoomForRows marked.now.hint.now.cols room.old }
+    ensures { FollowsRows marked.now.w marked.now.hint.now a2.now (S.digits server.old)
+        (S.digits server.new) client.old client.new marked.now.marks.now }
 {
     let most = room.rows.public.rows();
     let mut r = 0;
-    while r < marks.len() {
-        r = list_marked(marks, r, most, &mut room.listed);
-        update_double_rows(
-            kernel,
-            server,
-            client,
-            a2,
-            w,
-            hint,
-            &room.listed,
-            &mut room.rows,
-        );
+    while r < marked.marks.len() {
+        r = list_marked(marked.marks, r, most, &mut room.listed);
+        let new_rows = NewRows {
+            hint: marked.hint,
+            w: marked.w,
+            listed: &room.listed,
+        };
+        update_double_rows(kernel, server, client, a2, &new_rows, &mut room.rows);
     }
 }
 

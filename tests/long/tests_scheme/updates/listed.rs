@@ -2,7 +2,7 @@
 
 use super::{both_hints, columns};
 use digit_pack::{DigitStore, Flat, Packed3, split_count};
-use hint_update::{RowsBuffers, update_double, update_double_rows};
+use hint_update::{NewRows, RowsBuffers, update_double, update_double_rows};
 use lane_kernels::Lanes;
 use matrix_u32::{Kernel, Matrix, Plain};
 use std::process::Abort;
@@ -22,14 +22,17 @@ fn follows_listed_rows<K: Kernel, S: DigitStore>(
     assert!(rt; hint.rows() == 5 && server.cols() == 5 && a2.rows() == 5);
     assert!(rt; hint.cols() == 1 && server.rows() == split_count(8));
     assert!(rt; client.rows() == server.rows() && client.cols() == a2.cols());
+    let new_rows = NewRows {
+        hint: &hint,
+        w: 8,
+        listed: &[1, 2, 4],
+    };
     update_double_rows(
         kernel,
         &mut server,
         &mut client,
         &a2,
-        8,
-        &hint,
-        &[1, 2, 4],
+        &new_rows,
         &mut room,
     );
     let (fresh, fresh_client): (S, Matrix) = both_hints(rt, kernel, &new, &a2)?;
@@ -115,14 +118,17 @@ fn follows_multiples<K: Kernel, S: DigitStore>(
         w,
     )?;
     let mut room = RowsBuffers::new(rt.alloc(), 32, 3, w)?;
+    let new_rows = NewRows {
+        hint: &hint,
+        w,
+        listed: &listed,
+    };
     update_double_rows(
         kernel,
         &mut server,
         &mut client,
         &a2,
-        w,
-        &hint,
-        &listed,
+        &new_rows,
         &mut room,
     );
     assert!(rt; columns(rt, &server)? == columns(rt, &fresh)?);

@@ -11,7 +11,7 @@ loop-b-preserved g c =
     let factors : WordMatrix = c.args.factors.now in
     let public : WordMatrix = c.args.public.now in
     let b : ℕ = c.loop-b.b in
-    let first : ℕ = c.args.first in
+    let first : ℕ = c.args.block.first in
     let t : ℕ = c.args.t in
     let n : ℕ = c.args.n in
     let fs : List ℕ = slice_range (row factors b) t (t + n) in
@@ -22,6 +22,6 @@ loop-b-preserved g c =
     let factor : (k : ℕ) → k < n → slice_index fs k ≡ entry factors b (t + k) = λ k h.
     let short : k < t + n - t = omega arith in
     rw (get_or-take, get_or-drop) (row_index factors b (t + k) (omega arith)) in
-    let new = rw (c.row_mut.ensures.value, c.row.ensures.value, long) at c.add_changes.ensures in
+    let new = rw (c.row_mut-out.ensures.value, c.row.ensures.value, long) at c.add_changes.ensures in
     one_added c.args.client_hint.now c.loop-b.client_hint factors public first b t n (λ k. slice_index fs k) c.add_changes.new.out c.loop-b.invariant
     (omega (arith, c.loop-b-test.true, c.loop-b.auto.b-end, c.requires.block)) factor new

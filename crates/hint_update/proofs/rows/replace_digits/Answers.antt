@@ -9,12 +9,12 @@ use Rattle.hint_update.proofs.rows.replace_digits.Goals as goal
 
 pub loop-k-preserved : goal.loop-k-preserved
 loop-k-preserved g c =
-    let w : ℕ = c.args.w in
-    let first : ℕ = c.args.first in
+    let w : ℕ = c.args.new_rows.now.w in
+    let first : ℕ = c.args.block.first in
     let k : ℕ = c.loop-k.k in
-    let count : ℕ = c.args.count in
-    let listed : List ℕ = c.args.listed.now in
-    let hint : WordMatrix = c.args.hint.now in
+    let count : ℕ = c.args.block.count in
+    let listed : List ℕ = c.args.new_rows.now.listed.now in
+    let hint : WordMatrix = c.args.new_rows.now.hint.now in
     let s0 : WordMatrix = g.S.DigitStore.digits c.args.server_hint.now in
     let s : WordMatrix = g.S.DigitStore.digits c.loop-k.server_hint in
     let s' : WordMatrix = g.S.DigitStore.digits c.take_column.new.server_hint in
@@ -49,5 +49,5 @@ loop-k-preserved g c =
 
 pub returns-clause-server : goal.returns-clause-server
 returns-clause-server g c =
-    all_columns_taken c.args.w c.args.hint.now (g.S.DigitStore.digits c.args.server_hint.now) (g.S.DigitStore.digits c.loop-k.server_hint) c.args.listed.now c.loop-k.k
-    c.args.first c.args.count (omega (arith, c.loop-k-test.false, c.loop-k.auto.k-end)) c.loop-k.invariant.server
+    all_columns_taken c.args.new_rows.now.w c.args.new_rows.now.hint.now (g.S.DigitStore.digits c.args.server_hint.now) (g.S.DigitStore.digits c.loop-k.server_hint) c.args.new_rows.now.listed.now c.loop-k.k
+    c.args.block.first c.args.block.count (omega (arith, c.loop-k-test.false, c.loop-k.auto.k-end)) c.loop-k.invariant.server

@@ -10,9 +10,9 @@ use Rattle.hint_update.proofs.rows.update_double_rows.Goals as goal
 
 pub loop-first-preserved : goal.loop-first-preserved
 loop-first-preserved g c =
-    let w : ℕ = c.args.w in
-    let hint : WordMatrix = c.args.hint.now in
-    let listed : List ℕ = c.args.listed.now in
+    let w : ℕ = c.args.new_rows.now.w in
+    let hint : WordMatrix = c.args.new_rows.now.hint.now in
+    let listed : List ℕ = c.args.new_rows.now.listed.now in
     let first : ℕ = c.loop-first.first in
     let count : ℕ = c.min-count.result in
     let s0 : WordMatrix = g.S.DigitStore.digits c.args.server_hint.now in
@@ -66,20 +66,20 @@ returns-clause-room g c = c.loop-first.invariant.room
 
 pub returns-clause-server : goal.returns-clause-server
 returns-clause-server g c =
-    all_taken c.args.w c.args.hint.now (g.S.DigitStore.digits c.args.server_hint.now) (g.S.DigitStore.digits c.loop-first.server_hint) c.args.listed.now
+    all_taken c.args.new_rows.now.w c.args.new_rows.now.hint.now (g.S.DigitStore.digits c.args.server_hint.now) (g.S.DigitStore.digits c.loop-first.server_hint) c.args.new_rows.now.listed.now
     c.loop-first.first (omega (arith, c.loop-first-test.false, c.rows-rows.ensures.value)) c.loop-first.invariant.server
 
 pub returns-clause-client : goal.returns-clause-client
 returns-clause-client g c =
-    all_moved c.loop-first.first c.args.w c.args.hint.now (g.S.DigitStore.digits c.args.server_hint.now) (g.S.DigitStore.digits c.loop-first.server_hint)
-    c.args.client_hint.now c.loop-first.client_hint c.args.a2.now c.args.listed.now
+    all_moved c.loop-first.first c.args.new_rows.now.w c.args.new_rows.now.hint.now (g.S.DigitStore.digits c.args.server_hint.now) (g.S.DigitStore.digits c.loop-first.server_hint)
+    c.args.client_hint.now c.loop-first.client_hint c.args.a2.now c.args.new_rows.now.listed.now
     (omega (arith, c.loop-first-test.false, c.rows-rows.ensures.value, c.requires.client_rows)) c.requires.client_rows (returns-clause-server g c)
     c.loop-first.invariant.client
 
 pub returns-clause-follows : goal.returns-clause-follows
 returns-clause-follows g c = λ old new a1 change made.
-    listed_follows c.args.w (g.S.DigitStore.digits c.args.server_hint.now) (g.S.DigitStore.digits c.loop-first.server_hint) c.args.client_hint.now
-    c.loop-first.client_hint a1 c.args.a2.now old new c.args.hint.now c.args.listed.now
-    (split_some c.args.w (omega (arith, c.requires.width.0))) (c.requires.width.1) c.requires.rows
-    (subst (λ n. AreRowsBelow n c.args.listed.now) (sym c.requires.server_cols) c.requires.listed)
+    listed_follows c.args.new_rows.now.w (g.S.DigitStore.digits c.args.server_hint.now) (g.S.DigitStore.digits c.loop-first.server_hint) c.args.client_hint.now
+    c.loop-first.client_hint a1 c.args.a2.now old new c.args.new_rows.now.hint.now c.args.new_rows.now.listed.now
+    (split_some c.args.new_rows.now.w (omega (arith, c.requires.width.0))) (c.requires.width.1) c.requires.rows
+    (subst (λ n. AreRowsBelow n c.args.new_rows.now.listed.now) (sym c.requires.server_cols) c.requires.listed)
     (returns-clause-server g c) (returns-clause-client g c) change made

@@ -9,10 +9,10 @@ use Rattle.hint_update.proofs.rows.update_double_rows.Given as goal
 abbrev pub invariant-loop-first : goal.invariant-loop-first
 invariant-loop-first g l = record {
   within : l.first ≤ l.rows;
-  server : TakesBlock l.w l.hint (g.S.DigitStore.digits l.fn.server_hint) (g.S.DigitStore.digits l.server_hint) l.listed 0 l.first;
-  client : IsMovedTo l.first l.w l.hint (g.S.DigitStore.digits l.fn.server_hint) l.fn.client_hint l.client_hint l.a2 l.listed;
-  copied : (k q : ℕ) → k < length l.listed → q < l.a2.cols → entry l.room.public k q ≡ entry l.a2 (slice_index l.listed k) q;
-  cleared : (k q : ℕ) → length l.listed ≤ k → k < l.fn.room.public.rows → q < l.a2.cols → entry l.room.public k q ≡ 0;
+  server : TakesBlock l.fn.new_rows.w l.fn.new_rows.hint.now (g.S.DigitStore.digits l.fn.server_hint) (g.S.DigitStore.digits l.server_hint) l.fn.new_rows.listed.now 0 l.first;
+  client : IsMovedTo l.first l.fn.new_rows.w l.fn.new_rows.hint.now (g.S.DigitStore.digits l.fn.server_hint) l.fn.client_hint l.client_hint l.a2 l.fn.new_rows.listed.now;
+  copied : (k q : ℕ) → k < length l.fn.new_rows.listed.now → q < l.a2.cols → entry l.room.public k q ≡ entry l.a2 (slice_index l.fn.new_rows.listed.now k) q;
+  cleared : (k q : ℕ) → length l.fn.new_rows.listed.now ≤ k → k < l.fn.room.public.rows → q < l.a2.cols → entry l.room.public k q ≡ 0;
   combined : HasCombined l.room.public l.room.words;
   room : IsRowsBuffers l.fn.room.public.rows l.a2.cols l.room;
 }

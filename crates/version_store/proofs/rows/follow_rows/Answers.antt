@@ -16,7 +16,7 @@ loop-r-init g c = record {
     listed = c.requires.room.listed;
   };
   most = c.rows-most.ensures.value;
-  follows = none_followed c.args.w c.args.hint.now c.args.a2.now (g.S.DigitStore.digits c.args.server.now) c.args.client.now c.args.marks.now
+  follows = none_followed c.args.marked.now.w c.args.marked.now.hint.now c.args.a2.now (g.S.DigitStore.digits c.args.server.now) c.args.client.now c.args.marked.now.marks.now
       c.requires.server_rows c.requires.server_cols c.requires.client_rows c.requires.client_cols;
 }
 
@@ -24,10 +24,10 @@ pub update_double_rows-requires-clause-listed : goal.update_double_rows-requires
 update_double_rows-requires-clause-listed g c =
     let listed : List ℕ = c.list_marked-r.new.listed.items in
     let end : ℕ = c.list_marked-r.result in
-    let rows : AreRowsBelow c.args.hint.now.rows listed =
-    listed_below c.args.marks.now c.loop-r.r end c.args.hint.now.rows listed (omega (arith, c.list_marked-r.ensures.inside, c.requires.marks))
-    (marked_listed c.args.marks.now c.loop-r.r end listed (omega (arith, c.list_marked-r.ensures.further)) c.list_marked-r.ensures.listed) in
-    subst (AreRowsBelow c.args.hint.now.rows) (sym c.deref.ensures.value) rows
+    let rows : AreRowsBelow c.args.marked.now.hint.now.rows listed =
+    listed_below c.args.marked.now.marks.now c.loop-r.r end c.args.marked.now.hint.now.rows listed (omega (arith, c.list_marked-r.ensures.inside, c.requires.marks))
+    (marked_listed c.args.marked.now.marks.now c.loop-r.r end listed (omega (arith, c.list_marked-r.ensures.further)) c.list_marked-r.ensures.listed) in
+    subst (AreRowsBelow c.args.marked.now.hint.now.rows) (sym c.deref.ensures.value) rows
 
 pub update_double_rows-requires-clause-room : goal.update_double_rows-requires-clause-room
 update_double_rows-requires-clause-room g c =
@@ -35,11 +35,11 @@ update_double_rows-requires-clause-room g c =
 
 pub loop-r-preserved : goal.loop-r-preserved
 loop-r-preserved g c =
-    let marks : _ = c.args.marks.now in
+    let marks : _ = c.args.marked.now.marks.now in
     let r : ℕ = c.loop-r.r in
     let end : ℕ = c.list_marked-r.result in
-    let w : ℕ = c.args.w in
-    let hint : WordMatrix = c.args.hint.now in
+    let w : ℕ = c.args.marked.now.w in
+    let hint : WordMatrix = c.args.marked.now.hint.now in
     let a2 : WordMatrix = c.args.a2.now in
     let s : WordMatrix = g.S.DigitStore.digits c.loop-r.server in
     let s' : WordMatrix = g.S.DigitStore.digits c.update_double_rows.new.server_hint in
@@ -67,5 +67,5 @@ loop-r-preserved g c =
 
 pub returns : goal.returns
 returns g c =
-    all_followed c.loop-r.r c.args.w c.args.hint.now c.args.a2.now (g.S.DigitStore.digits c.args.server.now) (g.S.DigitStore.digits c.loop-r.server)
-    c.args.client.now c.loop-r.client c.args.marks.now (omega (arith, c.loop-r-test.false)) c.loop-r.invariant.follows
+    all_followed c.loop-r.r c.args.marked.now.w c.args.marked.now.hint.now c.args.a2.now (g.S.DigitStore.digits c.args.server.now) (g.S.DigitStore.digits c.loop-r.server)
+    c.args.client.now c.loop-r.client c.args.marked.now.marks.now (omega (arith, c.loop-r-test.false)) c.loop-r.invariant.follows

@@ -24,8 +24,8 @@ pub place-first-requires : goal.place-first-requires
 place-first-requires g c =
     omega (arith, c.requires.index, ap (λ e. length e.records) c.self.view_is, long_held c.self.inside.plan c.self.inside.layout.count (bytes_held c.self.inside.plan c.self.inside.layout c.self.inside.kept.items c.self.inside.digits))
 
-pub replace_digits-requires-clause-made : goal.replace_digits-requires-clause-made
-replace_digits-requires-clause-made g c =
+pub replace_in_column-requires-clause-made : goal.replace_in_column-requires-clause-made
+replace_in_column-requires-clause-made g c =
     let l : Shape = c.self.inside.layout in
     let p : Plan = c.self.inside.plan in
     let sizes : shape_at p l.count ≡ l = c.self.invariant.made.sizes in
@@ -34,14 +34,14 @@ replace_digits-requires-clause-made g c =
     (omega (arith, ap digit_cols (shape_again p l (bytes_held c.self.inside.plan c.self.inside.layout c.self.inside.kept.items c.self.inside.digits) sizes), c.self.invariant.made.enough))
     ∙ ap (λ d. product d c.self.inside.a1) (sym c.self.invariant.made.digits_are)
 
-pub replace_digits-requires-clause-inner : goal.replace_digits-requires-clause-inner
-replace_digits-requires-clause-inner g c =
+pub replace_in_column-requires-clause-inner : goal.replace_in_column-requires-clause-inner
+replace_in_column-requires-clause-inner g c =
     let l : Shape = c.self.inside.layout in
     omega
     (arith, ap (λ m. m.cols) c.self.invariant.made.digits_are, ap digit_cols (shape_again c.self.inside.plan l (bytes_held c.self.inside.plan c.self.inside.layout c.self.inside.kept.items c.self.inside.digits) c.self.invariant.made.sizes), c.self.invariant.made.enough)
 
-pub replace_digits-requires-clause-col : goal.replace_digits-requires-clause-col
-replace_digits-requires-clause-col g c =
+pub replace_in_column-requires-clause-col : goal.replace_in_column-requires-clause-col
+replace_in_column-requires-clause-col g c =
     let l : Shape = c.self.inside.layout in
     let shape : IsShape l = shape_of_layout l c.self.invariant.made.layout in
     let inside : c.args.i < l.count =
@@ -92,7 +92,7 @@ after g c =
 
 -- what is made, of these bytes
 made_of : (g : Over) (c : Place g) →
-    IsMade c.self.inside.plan c.self.inside.layout (after g c).0 c.self.inside.a1 c.replace_digits.new.digits c.replace_digits.new.hint
+    IsMade c.self.inside.plan c.self.inside.layout (after g c).0 c.self.inside.a1 c.replace_in_column.new.digits c.replace_in_column.new.hint
 made_of g c =
     let l : Shape = c.self.inside.layout in
     let p : Plan = c.self.inside.plan in
@@ -109,13 +109,13 @@ made_of g c =
     let inside : c.args.i < l.count = omega (arith, c.requires.index, ap (λ e. length e.records) c.self.view_is, long_held p l.count old) in
     let are : slots p (records_held p l.count new) ≡ records_in l new =
     slots_replaced p l old new c.args.i c.args.bytes.now ok sizes room written c.self.invariant.made.slots_are in
-    let w : WritesColumn (digit_matrix l xs) c.replace_digits.new.digits (first_row l c.args.i) (column_of l c.args.i) (record_digits l (slot p c.args.bytes.now)) =
-    written_as c.self.inside.digits _ c.replace_digits.new.digits c.place-first.result.0 _ c.place-first.result.1 _ c.pack.new.out _
+    let w : WritesColumn (digit_matrix l xs) c.replace_in_column.new.digits (first_row l c.args.i) (column_of l c.args.i) (record_digits l (slot p c.args.bytes.now)) =
+    written_as c.self.inside.digits _ c.replace_in_column.new.digits c.place-first.result.0 _ c.place-first.result.1 _ c.pack.new.out _
     (c.self.invariant.made.digits_are ∙ digits_again p l old sizes c.self.invariant.made.slots_are)
     (ap (λ p. p.0) c.place-first.ensures.value) (ap (λ p. p.1) c.place-first.ensures.value)
-    (c.pack.ensures.digits ∙ ap (record_digits l) c.fill.ensures) c.replace_digits.ensures.digits in
-    let digits : c.replace_digits.new.digits ≡ digits_at p (records_held p l.count new) =
-    record_replaced l xs c.args.i (slot p c.args.bytes.now) c.replace_digits.new.digits (shape_of_layout l c.self.invariant.made.layout) inside
+    (c.pack.ensures.digits ∙ ap (record_digits l) c.fill.ensures) c.replace_in_column.ensures.digits in
+    let digits : c.replace_in_column.new.digits ≡ digits_at p (records_held p l.count new) =
+    record_replaced l xs c.args.i (slot p c.args.bytes.now) c.replace_in_column.new.digits (shape_of_layout l c.self.invariant.made.layout) inside
     (omega (arith, inside, many)) w
     ∙ ap (digit_matrix l) (sym written)
     ∙ sym (digits_again p l new sizes are) in
@@ -131,7 +131,7 @@ made_of g c =
       public_is = c.self.invariant.made.public_is;
       enough = c.self.invariant.made.enough;
       digits_are = digits;
-      hint_is = c.replace_digits.ensures.made ∙ ap (λ d. product d c.self.inside.a1) digits
+      hint_is = c.replace_in_column.ensures.made ∙ ap (λ d. product d c.self.inside.a1) digits
           ∙ sym (hint_spare p (records_held p l.count new) c.self.inside.a1 c.self.invariant.made.public_is
           (omega (arith, ap digit_cols (shape_again p l new sizes), c.self.invariant.made.enough)));
     }
@@ -139,17 +139,17 @@ made_of g c =
 -- the layer holds these bytes
 held_is : (g : Over) (c : Place g) →
     bytes_held c.self.inside.plan c.self.inside.layout
-    (take c.self.inside.kept.len (c.keep_record.new.kept ++ drop (length c.keep_record.new.kept) c.self.inside.kept.items)) c.replace_digits.new.digits
+    (take c.self.inside.kept.len (c.keep_record.new.kept ++ drop (length c.keep_record.new.kept) c.self.inside.kept.items)) c.replace_in_column.new.digits
     ≡ (after g c).0
 held_is g c =
-    held_made c.self.inside.plan c.self.inside.layout (after g c).0 c.self.inside.a1 c.replace_digits.new.digits c.replace_digits.new.hint
+    held_made c.self.inside.plan c.self.inside.layout (after g c).0 c.self.inside.a1 c.replace_in_column.new.digits c.replace_in_column.new.hint
     (made_of g c) (after g c).1.small _ (λ ordinary. kept_is g c ∙ (after g c).1.same ordinary)
 
 pub invariant_of-self : goal.invariant_of-self
 invariant_of-self g c = record {
   none = λ wide. kept_is g c ∙ c.keep_record.ensures.same wide ∙ c.deref_mut.ensures.value ∙ c.self.invariant.none wide;
   small = subst (All (λ x. x < 2 ^ 8)) (sym (held_is g c)) (after g c).1.small;
-  made = subst (λ (b : List ℕ). IsMade c.self.inside.plan c.self.inside.layout b c.self.inside.a1 c.replace_digits.new.digits c.replace_digits.new.hint)
+  made = subst (λ (b : List ℕ). IsMade c.self.inside.plan c.self.inside.layout b c.self.inside.a1 c.replace_in_column.new.digits c.replace_in_column.new.hint)
       (sym (held_is g c)) (made_of g c);
 }
 
@@ -171,10 +171,10 @@ returns-clause-records g c =
 pub returns-clause-marks : goal.returns-clause-marks
 returns-clause-marks g c =
     let old : WordMatrix = c.self.inside.digits in
-    let new : WordMatrix = c.replace_digits.new.digits in
-    let from : WordMatrix → Type 0 = λ d. MarksChanges d new c.args.marks.now c.replace_digits.new.marks in
+    let new : WordMatrix = c.replace_in_column.new.digits in
+    let from : WordMatrix → Type 0 = λ d. MarksChanges d new c.args.marks.now c.replace_in_column.new.marks in
     let before : c.self.inside.digits ≡ digits_at c.args.self.now.plan c.args.self.now.records =
     c.self.invariant.made.digits_are ∙ ap (λ (e : Records). digits_at e.plan e.records) c.self.view_is in
-    let to : WordMatrix → Type 0 = λ d. MarksChanges (digits_at c.args.self.now.plan c.args.self.now.records) d c.args.marks.now c.replace_digits.new.marks in
+    let to : WordMatrix → Type 0 = λ d. MarksChanges (digits_at c.args.self.now.plan c.args.self.now.records) d c.args.marks.now c.replace_in_column.new.marks in
     let made = invariant_of-self g c in
-    subst to made.made.digits_are (subst from before c.replace_digits.ensures.marks)
+    subst to made.made.digits_are (subst from before c.replace_in_column.ensures.marks)

@@ -2,7 +2,7 @@ use Rattle.std.proofs.Common.{◌≡◌}
 use Rattle.matrix_u32.specs.Matrix.{product}
 use Rattle.digit_pack.specs.Columns.{WritesFirst}
 use Rattle.version_store.specs.Editions.{MarksChanges}
-use Rattle.version_store.proofs.columns.replace_digits.Given as goal
+use Rattle.version_store.proofs.columns.replace_in_column.Given as goal
 
 abbrev pub invariant-loop-d : goal.invariant-loop-d
 invariant-loop-d g l = record {
