@@ -2,7 +2,7 @@
 
 ghost use Rattle.std.specs.Prelude.{◌≡◌, ℕ, ◌+◌, ◌*◌, ◌^◌, ◌<◌, ◌≤◌, IfOk, length};
 ghost use Rattle.matrix_u32.specs.Matrix.{WordMatrix};
-ghost use Rattle.digit_pack.specs.Layout.{digit_rows, digit_cols, digits_per_record};
+ghost use Rattle.digit_pack.specs.Layout.{digit_rows, digit_cols, digits_per_record, first_row};
 ghost use Rattle.seed_expand.specs.Words.{source_rows};
 ghost use Rattle.regev_core.specs.Encryption.{with_noise};
 ghost use Rattle.simple_scheme.specs.Masks.{masks_of};
@@ -14,7 +14,9 @@ use crate::secrets::{part_secrets, put_matrix_products, put_products, zero_produ
 use digit_pack::Layout;
 use matrix_u32::{Kernel, Matrix};
 use seed_expand::WordSource;
-use simple_scheme::{Mask, QueryMasks, draw_noise, put_masked_query, put_query, put_query_under};
+use simple_scheme::{
+    Mask, QueryMasks, Retrieval, draw_noise, put_masked_query, put_query, put_query_under,
+};
 use std::alloc::{AllocError, Global};
 use std::marker::Model;
 
@@ -108,34 +110,33 @@ impl QueryBuffers {
             words: mut out,
         } = self;
         let (prefix, parts) = out.split_at_mut(layout.cols());
-        put_query_under(kernel, first, seed, number, &layout, i, &mut mask, prefix);
-        put_parts_under(kernel, second, seed, number, &layout, i, room, parts);
+        let asked = Retrieval { seed, number, i };
+        put_query_under(kernel, first, &asked, &layout, &mut mask, prefix);
+        put_parts_under(kernel, second, &asked, &layout, room, parts);
         out
     }
 
-    /// The query for record i, whose prefix is made of masks: of retrieval c of them, whose number
-    /// is `number`. Its parts are made by one pass over the second public matrix, whose words a
-    /// source gives, row by row. Under the first public matrix that the masks were made of, and
-    /// with their seed, this is the query as [`query`] says it. No memory is taken.
+    /// The query of a retrieval, whose prefix is made of masks: of retrieval c of them, whose
+    /// number is that asked for. Its parts are made by one pass over the second public matrix,
+    /// whose words a source gives, row by row. Under the first public matrix that the masks were
+    /// made of, and with their seed, this is the query as [`query`] says it. No memory is taken.
     pub fn fill_masked<K: Kernel>(
         self,
         kernel: K,
         masks: &QueryMasks,
         c: usize,
         second: WordSource,
-        seed: &[u8; 32],
-        number: u64,
-        i: usize,
+        asked: &Retrieval<'_>,
     ) -> Vec<u32>
-        requires number { number < 2 ^ 62 }
-        requires record { i < self.layout.count }
+        requires number { asked.now.number < 2 ^ 62 }
+        requires record { asked.now.i < self.layout.count }
         requires rows { masks.now.rows ≡ digit_cols self.layout }
         requires retrieval { c < masks.now.cols }
         ensures { (a1 : WordMatrix) → (first count : ℕ) →
-            masks.now ≡ masks_of a1 seed.now first count → number ≡ first + c →
+            masks.now ≡ masks_of a1 asked.now.seed.now first count → asked.now.number ≡ first + c →
             result.items ≡ double_query self.layout a1
             (source_rows second (digit_rows self.layout) self.second_dimension)
-            seed.now number i }
+            asked.now.seed.now asked.now.number asked.now.i }
     {
         let QueryBuffers {
             layout,
@@ -144,8 +145,8 @@ impl QueryBuffers {
             words: mut out,
         } = self;
         let (prefix, parts) = out.split_at_mut(layout.cols());
-        put_masked_query(masks, c, seed, number, &layout, i, &mut mask, prefix);
-        put_parts_under(kernel, second, seed, number, &layout, i, room, parts);
+        put_masked_query(masks, c, asked, &layout, &mut mask, prefix);
+        put_parts_under(kernel, second, asked, &layout, room, parts);
         out
     }
 }
@@ -172,19 +173,18 @@ fn part_buffers(alloc: Global, layout: &Layout, n: usize) -> Result<PartBuffers,
 fn put_parts_under<K: Kernel>(
     kernel: K,
     source: WordSource,
-    seed: &[u8; 32],
-    number: u64,
+    asked: &Retrieval<'_>,
     layout: &Layout,
-    i: usize,
     room: PartBuffers,
     out: &mut [u32],
 )
-    requires number { number < 2 ^ 62 }
-    requires record { i < layout.now.count }
+    requires number { asked.now.number < 2 ^ 62 }
+    requires record { asked.now.i < layout.now.count }
     requires part_buffers { HasPartBuffers layout.now room }
     requires room { length out.old ≡ digits_per_record layout.now * digit_rows layout.now }
     ensures { out.new ≡ part_queries_of layout.now
-        (source_rows source (digit_rows layout.now) (length room.row.items)) seed.now number i }
+        (source_rows source (digit_rows layout.now) (length room.row.items))
+        asked.now.seed.now asked.now.number asked.now.i }
 {
     let PartBuffers {
         secrets,
@@ -194,7 +194,7 @@ fn put_parts_under<K: Kernel>(
         mut products,
     } = room;
     let parts = layout.digits_per_record();
-    let secrets = part_secrets(seed, number, parts, row.len(), secrets);
+    let secrets = part_secrets(asked.seed, asked.number, parts, row.len(), secrets);
     put_products(
         kernel,
         source,
@@ -203,27 +203,26 @@ fn put_parts_under<K: Kernel>(
         &mut column,
         &mut products,
     );
-    put_noisy_parts(seed, number, layout, i, &products, &mut noise, out);
+    put_noisy_parts(asked, layout, &products, &mut noise, out);
 }
 
 // The same under a second public matrix that is held as a whole.
 fn put_parts<K: Kernel>(
     kernel: K,
     a2: &Matrix,
-    seed: &[u8; 32],
-    number: u64,
+    asked: &Retrieval<'_>,
     layout: &Layout,
-    i: usize,
     room: PartBuffers,
     out: &mut [u32],
 )
-    requires number { number < 2 ^ 62 }
-    requires record { i < layout.now.count }
+    requires number { asked.now.number < 2 ^ 62 }
+    requires record { asked.now.i < layout.now.count }
     requires rows { a2.now.rows ≡ digit_rows layout.now }
     requires cols { a2.now.cols ≡ length room.row.items }
     requires part_buffers { HasPartBuffers layout.now room }
     requires room { length out.old ≡ digits_per_record layout.now * digit_rows layout.now }
-    ensures { out.new ≡ part_queries_of layout.now a2.now seed.now number i }
+    ensures { out.new ≡
+        part_queries_of layout.now a2.now asked.now.seed.now asked.now.number asked.now.i }
 {
     let PartBuffers {
         secrets,
@@ -233,75 +232,65 @@ fn put_parts<K: Kernel>(
         mut products,
     } = room;
     let parts = layout.digits_per_record();
-    let secrets = part_secrets(seed, number, parts, row.len(), secrets);
+    let secrets = part_secrets(asked.seed, asked.number, parts, row.len(), secrets);
     put_matrix_products(kernel, a2, &secrets, &mut column, &mut products);
-    put_noisy_parts(seed, number, layout, i, &products, &mut noise, out);
+    put_noisy_parts(asked, layout, &products, &mut noise, out);
 }
 
 // Writes all parts of a query from the products of the second public matrix with the secrets, a row
 // for each part.
 fn put_noisy_parts(
-    seed: &[u8; 32],
-    number: u64,
+    asked: &Retrieval<'_>,
     layout: &Layout,
-    i: usize,
     products: &Matrix,
     noise: &mut [i32],
     out: &mut [u32],
 )
-    requires number { number < 2 ^ 62 }
-    requires record { i < layout.now.count }
+    requires number { asked.now.number < 2 ^ 62 }
+    requires record { asked.now.i < layout.now.count }
     requires parts { products.now.rows ≡ digits_per_record layout.now }
     requires rows { products.now.cols ≡ digit_rows layout.now }
     requires noise { length noise.old ≡ digit_rows layout.now }
     requires room { length out.old ≡ digits_per_record layout.now * digit_rows layout.now }
     ensures { (a2 : WordMatrix) → a2.rows ≡ digit_rows layout.now →
-        HasProducts (digits_per_record layout.now) a2 seed.now number products.now →
-        out.new ≡ part_queries_of layout.now a2 seed.now number i }
+        HasProducts (digits_per_record layout.now) a2
+        asked.now.seed.now asked.now.number products.now →
+        out.new ≡ part_queries_of layout.now a2 asked.now.seed.now asked.now.number asked.now.i }
 {
-    let w = layout.width();
     let rows = layout.rows();
-    let (first, _) = layout.place(i);
     for d in 0..layout.digits_per_record() {
         let at = d * rows;
-        put_noisy_part(
-            seed,
-            number,
-            products.row(d),
-            w,
-            first + d,
-            d,
-            noise,
-            &mut out[at..at + rows],
-        );
+        let part = &mut out[at..at + rows];
+        put_noisy_part(asked, layout, products.row(d), d, noise, part);
     }
 }
 
-// Writes part d of a query: products, the part's own noise, and delta at its place.
+// Writes part d of a query: products, the part's own noise, and delta at the row of the record's
+// digit d.
 fn put_noisy_part(
-    seed: &[u8; 32],
-    number: u64,
+    asked: &Retrieval<'_>,
+    layout: &Layout,
     products: &[u32],
-    w: u32,
-    place: usize,
     d: usize,
     noise: &mut [i32],
     out: &mut [u32],
 )
-    requires number { number < 2 ^ 62 }
-    requires width { (6 ≤ w) × (w ≤ 10) }
-    requires part { d < 342 }
-    requires place { place < length products.now }
-    requires rows { length products.now ≤ 32768 }
-    requires noise { length noise.old ≡ length products.now }
-    requires room { length out.old ≡ length products.now }
-    ensures words { out.new ≡ with_noise w products.now
-        (part_noise seed.now number (length products.now) d) place }
+    requires number { asked.now.number < 2 ^ 62 }
+    requires record { asked.now.i < layout.now.count }
+    requires part { d < digits_per_record layout.now }
+    requires rows { length products.now ≡ digit_rows layout.now }
+    requires noise { length noise.old ≡ digit_rows layout.now }
+    requires room { length out.old ≡ digit_rows layout.now }
+    ensures words { out.new ≡ with_noise layout.now.width products.now
+        (part_noise asked.now.seed.now asked.now.number (digit_rows layout.now) d)
+        (first_row layout.now asked.now.i + d) }
     ensures noise { length noise.new ≡ length noise.old }
 {
-    draw_noise(seed, 4 * number + 3, (d * products.len()) as u64, noise);
+    let rows = layout.rows();
+    let (first, _) = layout.place(asked.i);
+    draw_noise(asked.seed, 4 * asked.number + 3, (d * rows) as u64, noise);
     out.copy_from_slice(products);
-    regev_core::add_noise(noise, place, w, out);
+    regev_core::add_noise(noise, first + d, layout.width(), out);
 }
 
 /// The query for record i: the encryption of its column under `a1`, which has a row for each column
@@ -333,7 +322,8 @@ pub fn query<K: Kernel>(
     let count = a1.rows() + layout.digits_per_record() * rows;
     let mut out = vec![in alloc; 0; count]?;
     let (prefix, parts) = out.split_at_mut(a1.rows());
-    put_query(kernel, seed, number, a1, layout, i, &mut mask, prefix);
-    put_parts(kernel, a2, seed, number, layout, i, room, parts);
+    let asked = Retrieval { seed, number, i };
+    put_query(kernel, &asked, a1, layout, &mut mask, prefix);
+    put_parts(kernel, a2, &asked, layout, room, parts);
     Ok(out)
 }

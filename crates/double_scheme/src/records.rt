@@ -18,8 +18,24 @@ use crate::secrets::{part_secrets, zero_products};
 use digit_pack::{Layout, join_word, split_count};
 use matrix_u32::{Kernel, Matrix};
 use seed_expand::stream_words;
-use simple_scheme::{RecoverError, read_digits, record_of_digits};
+use simple_scheme::{RecoverError, Retrieval, read_digits, record_of_digits};
 use std::alloc::{AllocError, Global};
+
+// What the parts of an answer are read from: the bits of a digit, the words of the answer, and the
+// secret of each part, a row for each.
+#[derive(Clone, Copy)]
+struct Reading<'a> {
+    w: u32,
+    answer: &'a [u32],
+    secrets: &'a Matrix,
+}
+
+// What the first layer's answer is read with: its hint and its secret.
+#[derive(Clone, Copy)]
+struct FirstLayer<'a> {
+    hint: &'a Matrix,
+    secret: &'a [u32],
+}
 
 // The word whose digits the second layer's words give from row k κ of its hint on.
 fn read_word<K: Kernel>(
@@ -47,32 +63,31 @@ fn read_word<K: Kernel>(
 // Word k of the row of D A1 that each part of an answer gives, in its row of `out`.
 fn read_column<K: Kernel>(
     kernel: K,
-    w: u32,
+    reading: &Reading<'_>,
     client_hint: &Matrix,
-    secrets: &Matrix,
-    answer: &[u32],
     k: usize,
     digits: &mut [u32],
     out: &mut Matrix,
 )
-    requires width { (6 ≤ w) × (w ≤ 10) }
-    requires rows { client_hint.now.rows ≡ client_hint.now.cols * split_count w }
+    requires width { (6 ≤ reading.now.w) × (reading.now.w ≤ 10) }
+    requires rows { client_hint.now.rows ≡ client_hint.now.cols * split_count reading.now.w }
     requires inside { k < client_hint.now.cols }
-    requires secrets { secrets.now.cols ≡ client_hint.now.cols }
-    requires words { client_hint.now.cols * split_count w
-        + secrets.now.rows * words_of_part w client_hint.now.cols ≤ length answer.now }
-    requires scratch { length digits.old ≡ split_count w }
-    requires out_rows { out.old.rows ≡ secrets.now.rows }
+    requires secrets { reading.now.secrets.now.cols ≡ client_hint.now.cols }
+    requires words { client_hint.now.cols * split_count reading.now.w + reading.now.secrets.now.rows
+        * words_of_part reading.now.w client_hint.now.cols ≤ length reading.now.answer.now }
+    requires scratch { length digits.old ≡ split_count reading.now.w }
+    requires out_rows { out.old.rows ≡ reading.now.secrets.now.rows }
     requires out_cols { out.old.cols ≡ client_hint.now.cols }
-    ensures here { (d : ℕ) → d < secrets.now.rows → entry out.new d k
-        ≡ second_word w client_hint.now (row secrets.now d)
-        (hint_part_words w client_hint.now.cols
-        (answer_part w client_hint.now.cols answer.now d)) k }
+    ensures here { (d : ℕ) → d < reading.now.secrets.now.rows → entry out.new d k
+        ≡ second_word reading.now.w client_hint.now (row reading.now.secrets.now d)
+        (hint_part_words reading.now.w client_hint.now.cols
+        (answer_part reading.now.w client_hint.now.cols reading.now.answer.now d)) k }
     ensures others { (d j : ℕ) → d < out.old.rows → j < out.old.cols → j ≢ k →
         entry out.new d j ≡ entry out.old d j }
     ensures rows { out.new.rows ≡ out.old.rows }
     ensures cols { out.new.cols ≡ out.old.cols }
 {
+    let Reading { w, answer, secrets } = *reading;
     let _rows = out.rows();
     let prefix = client_hint.rows();
     let count = prefix + split_count(w);
@@ -87,29 +102,28 @@ fn read_column<K: Kernel>(
 // client's hint.
 fn read_rows<K: Kernel>(
     kernel: K,
-    w: u32,
+    reading: &Reading<'_>,
     client_hint: &Matrix,
-    secrets: &Matrix,
-    answer: &[u32],
     digits: &mut [u32],
     out: &mut Matrix,
 )
-    requires width { (6 ≤ w) × (w ≤ 10) }
-    requires rows { client_hint.now.rows ≡ client_hint.now.cols * split_count w }
-    requires secrets { secrets.now.cols ≡ client_hint.now.cols }
-    requires words { client_hint.now.cols * split_count w
-        + secrets.now.rows * words_of_part w client_hint.now.cols ≤ length answer.now }
-    requires scratch { length digits.old ≡ split_count w }
-    requires out_rows { out.old.rows ≡ secrets.now.rows }
+    requires width { (6 ≤ reading.now.w) × (reading.now.w ≤ 10) }
+    requires rows { client_hint.now.rows ≡ client_hint.now.cols * split_count reading.now.w }
+    requires secrets { reading.now.secrets.now.cols ≡ client_hint.now.cols }
+    requires words { client_hint.now.cols * split_count reading.now.w + reading.now.secrets.now.rows
+        * words_of_part reading.now.w client_hint.now.cols ≤ length reading.now.answer.now }
+    requires scratch { length digits.old ≡ split_count reading.now.w }
+    requires out_rows { out.old.rows ≡ reading.now.secrets.now.rows }
     requires out_cols { out.old.cols ≡ client_hint.now.cols }
-    ensures rows { (d : ℕ) → d < secrets.now.rows → row out.new d
-        ≡ row_read w client_hint.now.cols client_hint.now (row secrets.now d)
-        (answer_part w client_hint.now.cols answer.now d) }
+    ensures rows { (d : ℕ) → d < reading.now.secrets.now.rows → row out.new d
+        ≡ row_read reading.now.w client_hint.now.cols client_hint.now
+        (row reading.now.secrets.now d)
+        (answer_part reading.now.w client_hint.now.cols reading.now.answer.now d) }
     ensures count { out.new.rows ≡ out.old.rows }
     ensures cols { out.new.cols ≡ out.old.cols }
 {
     for k in 0..client_hint.cols() {
-        read_column(kernel, w, client_hint, secrets, answer, k, digits, out);
+        read_column(kernel, reading, client_hint, k, digits, out);
     }
 }
 
@@ -122,32 +136,31 @@ fn rest_of(words: &[u32], start: usize) -> &[u32]
     &words[start..]
 }
 
-// The digit that a part of an answer reads as, with the row of D A1 that it gives, the first
-// answer's hint and both secrets.
+// The digit that a part of an answer reads as, with the row of D A1 that it gives and the secrets
+// of both layers.
 fn read_part<K: Kernel>(
     kernel: K,
     w: u32,
     row: &[u32],
-    first_hint: &Matrix,
-    first_secret: &[u32],
+    first: &FirstLayer<'_>,
     part_secret: &[u32],
     part: &[u32],
     digits: &mut [u32],
 ) -> u32
     requires width { (6 ≤ w) × (w ≤ 10) }
-    requires first_rows { first_hint.now.rows ≡ split_count w }
-    requires row { length row.now ≡ first_hint.now.cols }
-    requires first_words { length first_secret.now ≡ first_hint.now.cols }
-    requires part_words { length part_secret.now ≡ first_hint.now.cols }
-    requires part { length part.now ≡ words_of_part w first_hint.now.cols }
+    requires first_rows { first.now.hint.now.rows ≡ split_count w }
+    requires row { length row.now ≡ first.now.hint.now.cols }
+    requires first_words { length first.now.secret.now ≡ first.now.hint.now.cols }
+    requires part_words { length part_secret.now ≡ first.now.hint.now.cols }
+    requires part { length part.now ≡ words_of_part w first.now.hint.now.cols }
     requires scratch { length digits.old ≡ split_count w }
     ensures { result ≡ nearest w (stripped
-        (word_read w first_hint.now.cols first_hint.now part_secret.now part.now)
-        row.now first_secret.now) }
+        (word_read w first.now.hint.now.cols first.now.hint.now part_secret.now part.now)
+        row.now first.now.secret.now) }
 {
-    let rest = rest_of(part, first_hint.cols() * split_count(w));
-    let word = read_word(kernel, w, first_hint, part_secret, rest, 0, digits);
-    let stripped = regev_core::strip(kernel, word, row, first_secret);
+    let rest = rest_of(part, first.hint.cols() * split_count(w));
+    let word = read_word(kernel, w, first.hint, part_secret, rest, 0, digits);
+    let stripped = regev_core::strip(kernel, word, row, first.secret);
     regev_core::round(stripped, w)
 }
 
@@ -170,93 +183,76 @@ fn first_hint(alloc: Global, w: u32, n: usize, answer: &[u32]) -> Result<Matrix,
 fn read_parts<K: Kernel>(
     alloc: Global,
     kernel: K,
-    seed: &[u8; 32],
-    number: u64,
+    asked: &Retrieval<'_>,
     client_hint: &Matrix,
     layout: &Layout,
     answer: &[u32],
     out: &mut [u32],
 ) -> Result<(), AllocError>
-    requires number { number < 2 ^ 62 }
+    requires number { asked.now.number < 2 ^ 62 }
     requires rows { client_hint.now.rows ≡ client_hint.now.cols * split_count layout.now.width }
     requires cols { client_hint.now.cols ≤ 1024 }
     requires words { length answer.now ≡ double_answer_count layout.now client_hint.now.cols }
     requires room { length out.old ≡ digits_per_record layout.now }
     ensures { IfOk result (λ _. out.new ≡
-        double_reading layout.now client_hint.now seed.now number answer.now) }
+        double_reading layout.now client_hint.now asked.now.seed.now asked.now.number answer.now) }
 {
     let w = layout.width();
     let n = client_hint.cols();
     let parts = layout.digits_per_record();
     let hint = first_hint(alloc, w, n, answer)?;
-    let s = stream_words(alloc, seed, 4 * number, 0, n)?;
+    let s = stream_words(alloc, asked.seed, 4 * asked.number, 0, n)?;
     let mut digits = vec![in alloc; 0; split_count(w)]?;
     let mut rows = zero_products(alloc, parts, n)?;
-    let secrets = part_secrets(seed, number, parts, n, vec![in alloc; 0; parts * n]?);
-    read_rows(
-        kernel,
+    let room = vec![in alloc; 0; parts * n]?;
+    let secrets = part_secrets(asked.seed, asked.number, parts, n, room);
+    let reading = Reading {
         w,
-        client_hint,
-        &secrets,
         answer,
-        &mut digits,
-        &mut rows,
-    );
-    read_digits_of_parts(
-        kernel,
-        w,
-        &rows,
-        &hint,
-        &s,
-        &secrets,
-        answer,
-        &mut digits,
-        out,
-    );
+        secrets: &secrets,
+    };
+    read_rows(kernel, &reading, client_hint, &mut digits, &mut rows);
+    let first = FirstLayer {
+        hint: &hint,
+        secret: &s,
+    };
+    read_digits_of_parts(kernel, &reading, &rows, &first, &mut digits, out);
     Ok(())
 }
 
 // The digits of all parts, from the row of D A1 that each gives.
 fn read_digits_of_parts<K: Kernel>(
     kernel: K,
-    w: u32,
+    reading: &Reading<'_>,
     rows: &Matrix,
-    first_hint: &Matrix,
-    first_secret: &[u32],
-    secrets: &Matrix,
-    answer: &[u32],
+    first: &FirstLayer<'_>,
     digits: &mut [u32],
     out: &mut [u32],
 )
-    requires width { (6 ≤ w) × (w ≤ 10) }
-    requires cols { first_hint.now.cols ≤ 1024 }
-    requires first_rows { first_hint.now.rows ≡ split_count w }
-    requires row_cols { rows.now.cols ≡ first_hint.now.cols }
-    requires first_words { length first_secret.now ≡ first_hint.now.cols }
-    requires secrets { secrets.now.cols ≡ first_hint.now.cols }
-    requires parts { (rows.now.rows ≡ length out.old) × (secrets.now.rows ≡ length out.old) }
-    requires words { first_hint.now.cols * split_count w
-        + length out.old * words_of_part w first_hint.now.cols ≤ length answer.now }
-    requires scratch { length digits.old ≡ split_count w }
-    ensures { out.new ≡ list_of (length out.old) (λ d. nearest w (stripped
-        (word_read w first_hint.now.cols first_hint.now (row secrets.now d)
-        (answer_part w first_hint.now.cols answer.now d))
-        (row rows.now d) first_secret.now)) }
+    requires width { (6 ≤ reading.now.w) × (reading.now.w ≤ 10) }
+    requires cols { first.now.hint.now.cols ≤ 1024 }
+    requires first_rows { first.now.hint.now.rows ≡ split_count reading.now.w }
+    requires row_cols { rows.now.cols ≡ first.now.hint.now.cols }
+    requires first_words { length first.now.secret.now ≡ first.now.hint.now.cols }
+    requires secrets { reading.now.secrets.now.cols ≡ first.now.hint.now.cols }
+    requires parts { (rows.now.rows ≡ length out.old)
+        × (reading.now.secrets.now.rows ≡ length out.old) }
+    requires words { first.now.hint.now.cols * split_count reading.now.w
+        + length out.old * words_of_part reading.now.w first.now.hint.now.cols
+        ≤ length reading.now.answer.now }
+    requires scratch { length digits.old ≡ split_count reading.now.w }
+    ensures { out.new ≡ list_of (length out.old) (λ d. nearest reading.now.w (stripped
+        (word_read reading.now.w first.now.hint.now.cols first.now.hint.now
+        (row reading.now.secrets.now d)
+        (answer_part reading.now.w first.now.hint.now.cols reading.now.answer.now d))
+        (row rows.now d) first.now.secret.now)) }
 {
-    let prefix = first_hint.cols() * split_count(w);
+    let Reading { w, answer, secrets } = *reading;
+    let prefix = first.hint.cols() * split_count(w);
     let count = prefix + split_count(w);
     for d in 0..out.len() {
         let part = chunk_of(answer, prefix + d * count, count);
-        out[d] = read_part(
-            kernel,
-            w,
-            rows.row(d),
-            first_hint,
-            first_secret,
-            secrets.row(d),
-            part,
-            digits,
-        );
+        out[d] = read_part(kernel, w, rows.row(d), first, secrets.row(d), part, digits);
     }
 }
 
@@ -264,18 +260,18 @@ fn read_digits_of_parts<K: Kernel>(
 fn read_all<K: Kernel>(
     alloc: Global,
     kernel: K,
-    seed: &[u8; 32],
-    number: u64,
+    asked: &Retrieval<'_>,
     client_hint: &Matrix,
     layout: &Layout,
     answer: &[u32],
 ) -> Result<Vec<u32>, AllocError>
-    requires number { number < 2 ^ 62 }
+    requires number { asked.now.number < 2 ^ 62 }
     requires rows { client_hint.now.rows ≡ client_hint.now.cols * split_count layout.now.width }
     requires cols { client_hint.now.cols ≤ 1024 }
     requires words { length answer.now ≡ double_answer_count layout.now client_hint.now.cols }
     ensures { IfOk result (λ digits.
-        (digits.items ≡ double_reading layout.now client_hint.now seed.now number answer.now)
+        (digits.items ≡ double_reading layout.now client_hint.now
+        asked.now.seed.now asked.now.number answer.now)
         × All (λ d. d < 2 ^ layout.now.width) digits.items
         × (length digits.items ≡ digits_per_record layout.now)) }
 {
@@ -284,8 +280,7 @@ fn read_all<K: Kernel>(
     read_parts(
         alloc,
         kernel,
-        seed,
-        number,
+        asked,
         client_hint,
         layout,
         answer,
@@ -308,21 +303,21 @@ fn is_whole(layout: &Layout, client_hint: &Matrix, answer: &[u32]) -> bool
 fn read_record<K: Kernel>(
     alloc: Global,
     kernel: K,
-    seed: &[u8; 32],
-    number: u64,
+    asked: &Retrieval<'_>,
     client_hint: &Matrix,
     layout: &Layout,
     answer: &[u32],
 ) -> Result<Vec<u8>, RecoverError>
-    requires number { number < 2 ^ 62 }
+    requires number { asked.now.number < 2 ^ 62 }
     requires rows { client_hint.now.rows ≡ client_hint.now.cols * split_count layout.now.width }
     requires cols { client_hint.now.cols ≤ 1024 }
-    ensures { DoubleReadsRecord layout.now client_hint.now seed.now number answer.now result }
+    ensures { DoubleReadsRecord layout.now client_hint.now
+        asked.now.seed.now asked.now.number answer.now result }
 {
     if !is_whole(layout, client_hint, answer) {
         return Err(RecoverError::BadLength);
     }
-    let digits = read_all(alloc, kernel, seed, number, client_hint, layout, answer)?;
+    let digits = read_all(alloc, kernel, asked, client_hint, layout, answer)?;
     let bytes = vec![in alloc; 0; layout.record_len()]?;
     record_of_digits(layout, &digits, bytes)
 }
@@ -358,6 +353,7 @@ pub fn recover<K: Kernel>(
     laws::quiet_retrieval_reads_the_record();
     digit_pack::laws::pack_unpacks();
     let _width = layout.width();
-    let record = read_record(alloc, kernel, seed, number, client_hint, layout, answer);
+    let asked = Retrieval { seed, number, i };
+    let record = read_record(alloc, kernel, &asked, client_hint, layout, answer);
     record
 }

@@ -11,7 +11,7 @@ ghost use Rattle.pir_schemes.specs.Masks.{Serve, public_over};
 use crate::plan::{Plan, SecretSeed};
 use matrix_u32::Kernel;
 use seed_expand::{WordSource, source_gives_rows};
-use simple_scheme::MaskBuffers;
+use simple_scheme::{MaskBuffers, Retrieval};
 use std::alloc::{AllocError, Global};
 use std::marker::Model;
 
@@ -173,6 +173,7 @@ impl QueryMasks {
         source_gives_rows();
         let second = WordSource::at(&self.made.plan.seed, 1, 0);
         let seed = self.made.seed.bytes();
-        room.fill_masked(kernel, &self.masks, c, second, seed, number, i)
+        let asked = Retrieval { seed, number, i };
+        room.fill_masked(kernel, &self.masks, c, second, &asked)
     }
 }

@@ -16,9 +16,11 @@ mod mask;
 mod masks;
 mod queries;
 mod records;
+mod retrieval;
 
 pub use hints::{HintWatcher, Unwatched, setup, setup_watched};
 pub use mask::{Mask, draw_noise};
 pub use masks::{MaskBuffers, QueryMasks};
 pub use queries::{QueryBuffers, answer, put_masked_query, put_query, put_query_under, query};
 pub use records::{RecoverError, read_digits, record_of_digits, recover};
+pub use retrieval::Retrieval;

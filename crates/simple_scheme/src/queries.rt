@@ -10,6 +10,7 @@ ghost use Rattle.simple_scheme.specs.Masks.{masks_of};
 
 use crate::mask::Mask;
 use crate::masks::QueryMasks;
+use crate::retrieval::Retrieval;
 use digit_pack::{DigitStore, Layout};
 use matrix_u32::{Kernel, Matrix};
 use seed_expand::WordSource;
@@ -73,9 +74,8 @@ impl QueryBuffers {
             mut mask,
             words: mut out,
         } = self;
-        put_query_under(
-            kernel, source, seed, number, &layout, i, &mut mask, &mut out,
-        );
+        let asked = Retrieval { seed, number, i };
+        put_query_under(kernel, source, &asked, &layout, &mut mask, &mut out);
         out
     }
 
@@ -103,99 +103,98 @@ impl QueryBuffers {
             mut mask,
             words: mut out,
         } = self;
-        put_masked_query(masks, c, seed, number, &layout, i, &mut mask, &mut out);
+        let asked = Retrieval { seed, number, i };
+        put_masked_query(masks, c, &asked, &layout, &mut mask, &mut out);
         out
     }
 }
 
-/// Writes the query for record i. The mask has the size of `a1`, and what it held is lost.
+/// Writes the query of a retrieval. The mask has the size of `a1`, and what it held is lost.
 #[tactic(auto, unfolding(crate::specs::Simple::simple_query))]
 pub fn put_query<K: Kernel>(
     kernel: K,
-    seed: &[u8; 32],
-    number: u64,
+    asked: &Retrieval<'_>,
     a1: &Matrix,
     layout: &Layout,
-    i: usize,
     mask: &mut Mask,
     out: &mut [u32],
 )
-    requires number { number < 2 ^ 62 }
+    requires number { asked.now.number < 2 ^ 62 }
     requires rows { a1.now.rows ≡ digit_cols layout.now }
-    requires record { i < layout.now.count }
+    requires record { asked.now.i < layout.now.count }
     requires mask { HasSize a1.now.rows a1.now.cols mask.old }
     requires room { length out.old ≡ a1.now.rows }
-    ensures { out.new ≡ simple_query layout.now a1.now seed.now number i }
+    ensures { out.new ≡
+        simple_query layout.now a1.now asked.now.seed.now asked.now.number asked.now.i }
 {
-    let column = draw_for(seed, number, layout, i, mask);
+    let column = draw_for(asked, layout, mask);
     mask.encrypt(kernel, a1, layout.width(), column, out);
 }
 
-/// Writes the query for record i under the public matrix whose words a source gives, row by row,
+/// Writes the query of a retrieval under the public matrix whose words a source gives, row by row,
 /// one for each column of the layout; a row has as many words as the mask's secret. What the mask
 /// held is lost.
 #[tactic(auto, unfolding(crate::specs::Simple::simple_query))]
 pub fn put_query_under<K: Kernel>(
     kernel: K,
     source: WordSource,
-    seed: &[u8; 32],
-    number: u64,
+    asked: &Retrieval<'_>,
     layout: &Layout,
-    i: usize,
     mask: &mut Mask,
     out: &mut [u32],
 )
-    requires number { number < 2 ^ 62 }
-    requires record { i < layout.now.count }
+    requires number { asked.now.number < 2 ^ 62 }
+    requires record { asked.now.i < layout.now.count }
     requires mask { length mask.old.noise ≡ digit_cols layout.now }
     requires room { length out.old ≡ digit_cols layout.now }
     ensures { out.new ≡ simple_query layout.now
-        (source_rows source (digit_cols layout.now) (length mask.old.secret)) seed.now number i }
+        (source_rows source (digit_cols layout.now) (length mask.old.secret))
+        asked.now.seed.now asked.now.number asked.now.i }
 {
-    let column = draw_for(seed, number, layout, i, mask);
+    let column = draw_for(asked, layout, mask);
     mask.encrypt_under(kernel, source, layout.width(), column, out);
 }
 
-/// Writes the query for record i of masks: of retrieval c of them, whose number is `number`. Under
-/// the public matrix that the masks were made of, and with their seed, this is the query as
-/// [`query`] says it. What the mask held is lost.
+/// Writes the query of a retrieval of masks: of retrieval c of them, whose number is that asked
+/// for. Under the public matrix that the masks were made of, and with their seed, this is the query
+/// as [`query`] says it. What the mask held is lost.
 pub fn put_masked_query(
     masks: &QueryMasks,
     c: usize,
-    seed: &[u8; 32],
-    number: u64,
+    asked: &Retrieval<'_>,
     layout: &Layout,
-    i: usize,
     mask: &mut Mask,
     out: &mut [u32],
 )
-    requires number { number < 2 ^ 62 }
-    requires record { i < layout.now.count }
+    requires number { asked.now.number < 2 ^ 62 }
+    requires record { asked.now.i < layout.now.count }
     requires rows { masks.now.rows ≡ digit_cols layout.now }
     requires retrieval { c < masks.now.cols }
     requires mask { length mask.old.noise ≡ digit_cols layout.now }
     requires room { length out.old ≡ digit_cols layout.now }
     ensures { (a1 : WordMatrix) → (first count : ℕ) →
-        masks.now ≡ masks_of a1 seed.now first count → number ≡ first + c →
-        out.new ≡ simple_query layout.now a1 seed.now number i }
+        masks.now ≡ masks_of a1 asked.now.seed.now first count → asked.now.number ≡ first + c →
+        out.new ≡ simple_query layout.now a1 asked.now.seed.now asked.now.number asked.now.i }
 {
-    let column = draw_for(seed, number, layout, i, mask);
+    let column = draw_for(asked, layout, mask);
     masks.put_column(c, out);
     mask.cover(layout.width(), column, out);
 }
 
-// Draws what hides the column of record i in a retrieval, and gives the column.
-fn draw_for(seed: &[u8; 32], number: u64, layout: &Layout, i: usize, mask: &mut Mask) -> usize
-    requires number { number < 2 ^ 62 }
-    requires record { i < layout.now.count }
-    ensures column { result ≡ column_of layout.now i }
+// Draws what hides the column of the record asked for, and gives the column.
+fn draw_for(asked: &Retrieval<'_>, layout: &Layout, mask: &mut Mask) -> usize
+    requires number { asked.now.number < 2 ^ 62 }
+    requires record { asked.now.i < layout.now.count }
+    ensures column { result ≡ column_of layout.now asked.now.i }
     ensures inside { result < digit_cols layout.now }
-    ensures secret { mask.new.secret ≡ secret seed.now number (length mask.old.secret) }
-    ensures noise { mask.new.noise ≡ query_noise seed.now number (length mask.old.noise) }
+    ensures secret { mask.new.secret ≡
+        secret asked.now.seed.now asked.now.number (length mask.old.secret) }
+    ensures noise { mask.new.noise ≡
+        query_noise asked.now.seed.now asked.now.number (length mask.old.noise) }
     ensures size { HasSize (length mask.old.noise) (length mask.old.secret) mask.new }
 {
-    let (_, column) = layout.place(i);
-    mask.draw(seed, 4 * number, 0, 0);
+    let (_, column) = layout.place(asked.i);
+    mask.draw(asked.seed, 4 * asked.number, 0, 0);
     column
 }
 
@@ -217,7 +216,8 @@ pub fn query<K: Kernel>(
 {
     let mut mask = Mask::zeros(alloc, a1.rows(), a1.cols())?;
     let mut out = vec![in alloc; 0; a1.rows()]?;
-    put_query(kernel, seed, number, a1, layout, i, &mut mask, &mut out);
+    let asked = Retrieval { seed, number, i };
+    put_query(kernel, &asked, a1, layout, &mut mask, &mut out);
     Ok(out)
 }
 

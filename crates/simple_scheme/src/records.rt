@@ -10,6 +10,7 @@ ghost use Rattle.simple_scheme.specs.Recovery.{GivesBytes, SimpleReadsRecord};
 ghost use Rattle.simple_scheme.specs.Recovery.{SimpleGivesQuietRecord};
 
 use crate::laws;
+use crate::retrieval::Retrieval;
 use digit_pack::{Layout, unpack};
 use matrix_u32::{Kernel, Matrix};
 use seed_expand::stream_words;
@@ -44,25 +45,24 @@ impl From<AllocError> for RecoverError {
 fn read_all<K: Kernel>(
     alloc: Global,
     kernel: K,
-    seed: &[u8; 32],
-    number: u64,
+    asked: &Retrieval<'_>,
     hint: &Matrix,
     layout: &Layout,
-    i: usize,
     answer: &[u32],
 ) -> Result<Vec<u32>, AllocError>
-    requires number { number < 2 ^ 62 }
+    requires number { asked.now.number < 2 ^ 62 }
     requires rows { hint.now.rows ≡ digit_rows layout.now }
-    requires record { i < layout.now.count }
+    requires record { asked.now.i < layout.now.count }
     requires words { length answer.now ≡ digit_rows layout.now }
     ensures { IfOk result (λ digits.
-        (digits.items ≡ simple_reading layout.now hint.now seed.now number i answer.now)
+        (digits.items ≡ simple_reading layout.now hint.now
+        asked.now.seed.now asked.now.number asked.now.i answer.now)
         × All (λ d. d < 2 ^ layout.now.width) digits.items
         × (length digits.items ≡ digits_per_record layout.now)) }
 {
-    let s = stream_words(alloc, seed, 4 * number, 0, hint.cols())?;
+    let s = stream_words(alloc, asked.seed, 4 * asked.number, 0, hint.cols())?;
     let mut digits = vec![in alloc; 0; layout.digits_per_record()]?;
-    let (first, _) = layout.place(i);
+    let (first, _) = layout.place(asked.i);
     read_digits(kernel, layout.width(), hint, &s, first, answer, &mut digits);
     Ok(digits)
 }
@@ -89,22 +89,21 @@ pub fn record_of_digits(
 fn read_record<K: Kernel>(
     alloc: Global,
     kernel: K,
-    seed: &[u8; 32],
-    number: u64,
+    asked: &Retrieval<'_>,
     hint: &Matrix,
     layout: &Layout,
-    i: usize,
     answer: &[u32],
 ) -> Result<Vec<u8>, RecoverError>
-    requires number { number < 2 ^ 62 }
+    requires number { asked.now.number < 2 ^ 62 }
     requires rows { hint.now.rows ≡ digit_rows layout.now }
-    requires record { i < layout.now.count }
-    ensures { SimpleReadsRecord layout.now hint.now seed.now number i answer.now result }
+    requires record { asked.now.i < layout.now.count }
+    ensures { SimpleReadsRecord layout.now hint.now
+        asked.now.seed.now asked.now.number asked.now.i answer.now result }
 {
     if answer.len() != layout.rows() {
         return Err(RecoverError::BadLength);
     }
-    let digits = read_all(alloc, kernel, seed, number, hint, layout, i, answer)?;
+    let digits = read_all(alloc, kernel, asked, hint, layout, answer)?;
     let bytes = vec![in alloc; 0; layout.record_len()]?;
     record_of_digits(layout, &digits, bytes)
 }
@@ -135,7 +134,8 @@ pub fn recover<K: Kernel>(
     laws::quiet_retrieval_reads_the_record();
     digit_pack::laws::pack_unpacks();
     let _width = layout.width();
-    let record = read_record(alloc, kernel, seed, number, hint, layout, i, answer);
+    let asked = Retrieval { seed, number, i };
+    let record = read_record(alloc, kernel, &asked, hint, layout, answer);
     record
 }
 

@@ -8,7 +8,7 @@ use double_scheme::{QueryBuffers, answer, query, recover, setup};
 use lane_kernels::Lanes;
 use matrix_u32::{Kernel, Matrix, Plain};
 use seed_expand::{WordSource, expand};
-use simple_scheme::MaskBuffers;
+use simple_scheme::{MaskBuffers, Retrieval};
 use std::process::Abort;
 use std::test::Fail;
 
@@ -179,7 +179,12 @@ fn queries_of_masks(rt: HostRuntime) -> Result<(), Fail> {
             let wanted = query(rt.alloc(), Lanes, &ZERO_SEED, number, &a1, &a2, &layout, i)?;
             let room = QueryBuffers::new(rt.alloc(), &layout, 5, 5)?;
             let second = WordSource::at(&ZERO_SEED, 1, 0);
-            let words = room.fill_masked(Lanes, &masks, c, second, &ZERO_SEED, number, i);
+            let asked = Retrieval {
+                seed: &ZERO_SEED,
+                number,
+                i,
+            };
+            let words = room.fill_masked(Lanes, &masks, c, second, &asked);
             are_words(&rt, words.as_slice(), wanted.as_slice());
         }
     }

@@ -11,6 +11,6 @@ use Rattle.double_scheme.proofs.queries.put_noisy_parts.Given as goal
 abbrev pub invariant-loop-d : goal.invariant-loop-d
 invariant-loop-d l =
     (take (l.d * l.rows) l.out
-    ≡ flat_map (λ d. with_noise l.layout.width (row l.products d) (part_noise l.seed l.number (digit_rows l.layout) d) (first_row l.layout l.i + d))
+    ≡ flat_map (λ d. with_noise l.layout.width (row l.products d) (part_noise l.asked.seed.now l.asked.number (digit_rows l.layout) d) (first_row l.layout l.asked.i + d))
     (range_with_len 0 l.d))
     × (length l.noise ≡ digit_rows l.layout)

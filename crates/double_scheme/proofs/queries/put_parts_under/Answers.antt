@@ -11,8 +11,8 @@ use Rattle.double_scheme.proofs.queries.put_parts_under.Goals as goal
 pub returns : goal.returns
 returns g c =
     let l = c.args.layout.now in
-    let seed : List ℕ = c.args.seed.now in
-    let number : ℕ = c.args.number in
+    let seed : List ℕ = c.args.asked.now.seed.now in
+    let number : ℕ = c.args.asked.now.number in
     let n : ℕ = length c.args.room.row.items in
     let a : WordMatrix = source_rows c.args.source (digit_rows l) n in
     let secrets : WordMatrix = c.part_secrets-secrets.result in

@@ -11,11 +11,11 @@ returns g c =
     let l = c.args.layout.now in
     let hint = c.args.client_hint.now in
     let answer : List ℕ = c.args.answer.now in
-    let count : length (double_reading l hint c.args.seed.now c.args.number answer) ≡ digits_per_record l =
-    length-reading l hint c.args.seed.now c.args.number answer in
+    let count : length (double_reading l hint c.args.asked.now.seed.now c.args.asked.now.number answer) ≡ digits_per_record l =
+    length-reading l hint c.args.asked.now.seed.now c.args.asked.now.number answer in
     let all = kept c.in_ok-digits.digits c.read_parts.new.out (digits_per_record l) (ap length c.in_ok-read_parts.ensures ∙ count)
     (c.in_ok-digits.ensures.len ∙ c.digits_per_record.ensures.value) ∙ c.in_ok-read_parts.ensures in (
       all,
-      subst (All (λ d. d < 2 ^ l.width)) (sym all) (small_reading l hint c.args.seed.now c.args.number answer c.width-width.ensures.layout),
+      subst (All (λ d. d < 2 ^ l.width)) (sym all) (small_reading l hint c.args.asked.now.seed.now c.args.asked.now.number answer c.width-width.ensures.layout),
       ap length all ∙ count,
     )

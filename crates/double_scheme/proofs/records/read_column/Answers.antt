@@ -25,7 +25,7 @@ loop-d-init g c = record {
 
 pub loop-d-preserved : goal.loop-d-preserved
 loop-d-preserved g c =
-    let w : ℕ = c.args.w in
+    let w : ℕ = c.args.reading.now.w in
     let n : ℕ = c.args.client_hint.now.cols in
     let k : ℕ = c.args.k in
     let d : ℕ = c.loop-d.d in
@@ -33,12 +33,12 @@ loop-d-preserved g c =
     let word : ℕ = c.read_word-word.result in
     let prefix : c.rows-prefix.result ≡ n * split_count w = c.rows-prefix.ensures.value ∙ c.requires.rows in
     let size : c.rows-prefix.result + c.split_count.result ≡ words_of_part w n = omega (arith, prefix, c.split_count.ensures) in
-    let words : c.chunk_of-words.result.now ≡ hint_part_words w n (answer_part w n c.args.answer.now d) =
-    c.chunk_of-words.ensures.value ∙ words_for_the_row w n c.args.answer.now d _ _ prefix size in
-    let read : word ≡ second_word w c.args.client_hint.now (row c.args.secrets.now d) (hint_part_words w n (answer_part w n c.args.answer.now d)) k =
+    let words : c.chunk_of-words.result.now ≡ hint_part_words w n (answer_part w n c.args.reading.now.answer.now d) =
+    c.chunk_of-words.ensures.value ∙ words_for_the_row w n c.args.reading.now.answer.now d _ _ prefix size in
+    let read : word ≡ second_word w c.args.client_hint.now (row c.args.reading.now.secrets.now d) (hint_part_words w n (answer_part w n c.args.reading.now.answer.now d)) k =
     c.read_word-word.ensures
     ∙ ap (λ (s : List ℕ). second_word w c.args.client_hint.now s c.chunk_of-words.result.now k) c.row.ensures.value
-    ∙ ap (λ (ws : List ℕ). second_word w c.args.client_hint.now (row c.args.secrets.now d) ws k) words in
+    ∙ ap (λ (ws : List ℕ). second_word w c.args.client_hint.now (row c.args.reading.now.secrets.now d) ws k) words in
     let inside : k < before.cols = omega (arith, c.requires.inside, c.requires.out_cols, c.loop-d.invariant.cols) in
     let here : d < before.rows = omega (arith, c.loop-d-test.true, c.rows-d-end.ensures.value, c.requires.out_rows, c.loop-d.invariant.rows) in
     let at : (i j : ℕ) → entry c.set.new.self i j ≡ entry (with_entry before d k word) i j = λ i j. ap (λ (m : WordMatrix). entry m i j) c.set.ensures in

@@ -10,6 +10,6 @@ invariant-loop-d g l = record {
   cols : l.out.cols ≡ l.fn.out.cols;
   whole : IsWhole l.out;
   here : (i : ℕ) → i < l.d → entry l.out i l.k
-      ≡ second_word l.w l.client_hint (row l.secrets i) (hint_part_words l.w l.client_hint.cols (answer_part l.w l.client_hint.cols l.answer i)) l.k;
+      ≡ second_word l.reading.w l.client_hint (row l.reading.secrets.now i) (hint_part_words l.reading.w l.client_hint.cols (answer_part l.reading.w l.client_hint.cols l.reading.answer.now i)) l.k;
   others : (i j : ℕ) → i < l.fn.out.rows → j < l.fn.out.cols → j ≢ l.k → entry l.out i j ≡ entry l.fn.out i j;
 }

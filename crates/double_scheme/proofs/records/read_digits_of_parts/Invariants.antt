@@ -8,4 +8,4 @@ use Rattle.double_scheme.proofs.records.read_digits_of_parts.Given as goal
 -- the digits of the parts before d
 abbrev pub invariant-loop-d : goal.invariant-loop-d
 invariant-loop-d g l = (k : ℕ) → k < l.d → slice_index l.out k
-    ≡ nearest l.w (stripped (word_read l.w l.first_hint.cols l.first_hint (row l.secrets k) (answer_part l.w l.first_hint.cols l.answer k)) (row l.rows k) l.first_secret)
+    ≡ nearest l.reading.w (stripped (word_read l.reading.w l.first.hint.now.cols l.first.hint.now (row l.reading.secrets.now k) (answer_part l.reading.w l.first.hint.now.cols l.reading.answer.now k)) (row l.rows k) l.first.secret.now)

@@ -17,8 +17,8 @@ pub returns : goal.returns
 unfolding double_reading
 returns g c =
     let l = c.args.layout.now in
-    let seed : List ℕ = c.args.seed.now in
-    let number : ℕ = c.args.number in
+    let seed : List ℕ = c.args.asked.now.seed.now in
+    let number : ℕ = c.args.asked.now.number in
     let answer : List ℕ = c.args.answer.now in
     let hint : WordMatrix = c.args.client_hint.now in
     let w : ℕ = c.width-w.result in

@@ -8,6 +8,6 @@ abbrev pub invariant-loop-k : goal.invariant-loop-k
 invariant-loop-k g l = record {
   rows : l.out.rows ≡ l.fn.out.rows;
   cols : l.out.cols ≡ l.fn.out.cols;
-  read : (d j : ℕ) → d < l.secrets.rows → j < l.k → entry l.out d j
-      ≡ second_word l.w l.client_hint (row l.secrets d) (hint_part_words l.w l.client_hint.cols (answer_part l.w l.client_hint.cols l.answer d)) j;
+  read : (d j : ℕ) → d < l.reading.secrets.now.rows → j < l.k → entry l.out d j
+      ≡ second_word l.reading.w l.client_hint (row l.reading.secrets.now d) (hint_part_words l.reading.w l.client_hint.cols (answer_part l.reading.w l.client_hint.cols l.reading.answer.now d)) j;
 }

@@ -8,8 +8,8 @@ use Rattle.simple_scheme.proofs.queries.put_masked_query.Goals as goal
 
 pub returns : goal.returns
 returns c = λ a1 first count made at.
-    let seed : List ℕ = c.args.seed.now in
-    let number : ℕ = c.args.number in
+    let seed : List ℕ = c.args.asked.now.seed.now in
+    let number : ℕ = c.args.asked.now.number in
     let w : ℕ = c.args.layout.now.width in
     let words : List ℕ = column (masks_of a1 seed first count) c.args.c in
     let noise : c.draw_for-column.new.mask.noise ≡ query_noise seed number a1.rows =
@@ -22,4 +22,4 @@ returns c = λ a1 first count made at.
     ∙ ap (λ (e : List ℤ). with_noise c.width.result words e c.draw_for-column.result) noise
     ∙ ap (λ w. with_noise w words (query_noise seed number a1.rows) c.draw_for-column.result) c.width.ensures.value
     ∙ ap (λ p. with_noise w words (query_noise seed number a1.rows) p) c.draw_for-column.ensures.column
-    ∙ masked_query c.args.layout.now a1 seed first count c.args.c number c.args.i inside at
+    ∙ masked_query c.args.layout.now a1 seed first count c.args.c number c.args.asked.now.i inside at

@@ -11,8 +11,8 @@ encrypt-requires-clause-size g c = (c.draw_for-column.ensures.size.0 ∙ c.requi
 pub returns : goal.returns
 unfolding simple_query
 returns g c =
-    let seed : List ℕ = c.args.seed.now in
-    let number : ℕ = c.args.number in
+    let seed : List ℕ = c.args.asked.now.seed.now in
+    let number : ℕ = c.args.asked.now.number in
     let a : WordMatrix = c.args.a1.now in
     let s : c.draw_for-column.new.mask.secret ≡ secret seed number a.cols = c.draw_for-column.ensures.secret ∙ ap (λ n. secret seed number n) c.requires.mask.0 in
     let e : c.draw_for-column.new.mask.noise ≡ query_noise seed number a.rows = c.draw_for-column.ensures.noise ∙ ap (λ n. query_noise seed number n) c.requires.mask.1 in

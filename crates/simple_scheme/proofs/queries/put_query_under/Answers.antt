@@ -12,8 +12,8 @@ encrypt_under-requires-clause-size g c = c.draw_for-column.ensures.size.1 ∙ c.
 pub returns : goal.returns
 unfolding simple_query
 returns g c =
-    let seed : List ℕ = c.args.seed.now in
-    let number : ℕ = c.args.number in
+    let seed : List ℕ = c.args.asked.now.seed.now in
+    let number : ℕ = c.args.asked.now.number in
     let n : ℕ = length c.args.mask.now.secret in
     let m : ℕ = digit_cols c.args.layout.now in
     let a : WordMatrix = source_rows c.args.source m n in

@@ -13,9 +13,9 @@ pub returns : goal.returns
 unfolding double_query
 returns g c = λ a1 first count made at.
     let l : Shape = c.self.inside.layout in
-    let seed : List ℕ = c.args.seed.now in
-    let number : ℕ = c.args.number in
-    let i : ℕ = c.args.i in
+    let seed : List ℕ = c.args.asked.now.seed.now in
+    let number : ℕ = c.args.asked.now.number in
+    let i : ℕ = c.args.asked.now.i in
     let a2 : WordMatrix = source_rows c.args.second (digit_rows l) (length c.self.inside.parts.row.items) in
     let rows : a1.rows ≡ digit_cols l =
     sym (masks-rows a1 c.args.masks.now seed first count made) ∙ c.requires.rows ∙ ap (λ (s : QuerySizes). digit_cols s.layout) (sym c.self.view_is) in
