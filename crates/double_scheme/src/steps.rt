@@ -138,15 +138,23 @@ fn finish_part<K: Kernel, S: DigitStore>(
     kernel.mul_vec(first, part, first_words);
 }
 
-// The words of a query for a part.
-fn query_part<'a>(layout: &Layout, query: &'a [u32], part: usize) -> &'a [u32]
-    requires query { length query.now ≡ double_query_count layout.now }
-    requires part { part < digits_per_record layout.now }
-    ensures value { result.now ≡ part_of_query layout.now query.now part }
-    ensures count { length result.now ≡ digit_rows layout.now }
+// A part of a query on a layout, by its place among the parts.
+#[derive(Clone, Copy)]
+struct QueryPart<'a> {
+    layout: &'a Layout,
+    query: &'a [u32],
+    part: usize,
+}
+
+// The words of a part.
+fn part_words<'a>(of: &QueryPart<'a>) -> &'a [u32]
+    requires query { length of.now.query.now ≡ double_query_count of.now.layout.now }
+    requires part { of.now.part < digits_per_record of.now.layout.now }
+    ensures value { result.now ≡ part_of_query of.now.layout.now of.now.query.now of.now.part }
+    ensures count { length result.now ≡ digit_rows of.now.layout.now }
 {
-    let rows = layout.rows();
-    chunk_of(query, layout.cols() + part * rows, rows)
+    let rows = of.layout.rows();
+    chunk_of(of.query, of.layout.cols() + of.part * rows, rows)
 }
 
 // Writes the words of a part into the answer, in which there are those of all parts before.
@@ -164,79 +172,84 @@ fn join_part(place: usize, part: &[u32], words: &mut [u32])
 // answer.
 fn end_part<K: Kernel, S: DigitStore>(
     kernel: K,
-    layout: &Layout,
+    of: &QueryPart<'_>,
     server_hint: &S,
     first: &Matrix,
-    query: &[u32],
-    part: usize,
     made: &mut [u32],
     words: &mut [u32],
 )
-    requires query { length query.now ≡ double_query_count layout.now }
-    requires part { part < digits_per_record layout.now }
-    requires first_cols { first.now.cols ≡ digit_rows layout.now }
+    requires query { length of.now.query.now ≡ double_query_count of.now.layout.now }
+    requires part { of.now.part < digits_per_record of.now.layout.now }
+    requires first_cols { first.now.cols ≡ digit_rows of.now.layout.now }
     requires room { length made.old ≡ (S.digits server_hint.now).rows + first.now.rows }
     requires answer { length words.old ≡ (S.digits server_hint.now).rows
-        + digits_per_record layout.now * length made.old }
+        + digits_per_record of.now.layout.now * length made.old }
     requires made { HasFirst (S.digits server_hint.now).rows (times_vector
-        (S.digits server_hint.now) (part_of_query layout.now query.now part)) made.old }
+        (S.digits server_hint.now)
+        (part_of_query of.now.layout.now of.now.query.now of.now.part)) made.old }
     ensures joined { (prefix : List ℕ) → length prefix ≡ (S.digits server_hint.now).rows →
-        HasFirst ((S.digits server_hint.now).rows + part * length made.old) (prefix ++
-        part_answers_of layout.now (S.digits server_hint.now) first.now query.now) words.old →
-        HasFirst ((S.digits server_hint.now).rows + (part + 1) * length made.old) (prefix ++
-        part_answers_of layout.now (S.digits server_hint.now) first.now query.now) words.new }
+        HasFirst ((S.digits server_hint.now).rows + of.now.part * length made.old) (prefix ++
+        part_answers_of of.now.layout.now (S.digits server_hint.now) first.now of.now.query.now)
+        words.old →
+        HasFirst ((S.digits server_hint.now).rows + (of.now.part + 1) * length made.old) (prefix ++
+        part_answers_of of.now.layout.now (S.digits server_hint.now) first.now of.now.query.now)
+        words.new }
     ensures made_len { length made.new ≡ length made.old }
     ensures words_len { length words.new ≡ length words.old }
 {
-    let x = query_part(layout, query, part);
-    finish_part(kernel, server_hint, first, x, made);
-    join_part(server_hint.rows() + part * made.len(), made, words);
+    finish_part(kernel, server_hint, first, part_words(of), made);
+    join_part(server_hint.rows() + of.part * made.len(), made, words);
 }
 
 // Ends a part and, if there is one, the part after it, of which all rows of the server's hint are
 // there. Returns the part that is next.
 fn end_both<K: Kernel, S: DigitStore>(
     kernel: K,
-    layout: &Layout,
+    of: &QueryPart<'_>,
     server_hint: &S,
     first: &Matrix,
-    query: &[u32],
-    part: usize,
     x: &mut [u32],
     y: &mut [u32],
     words: &mut [u32],
 ) -> usize
-    requires query { length query.now ≡ double_query_count layout.now }
-    requires part { part < digits_per_record layout.now }
-    requires first_cols { first.now.cols ≡ digit_rows layout.now }
+    requires query { length of.now.query.now ≡ double_query_count of.now.layout.now }
+    requires part { of.now.part < digits_per_record of.now.layout.now }
+    requires first_cols { first.now.cols ≡ digit_rows of.now.layout.now }
     requires x_room { length x.old ≡ (S.digits server_hint.now).rows + first.now.rows }
     requires y_room { length y.old ≡ length x.old }
     requires answer { length words.old ≡ (S.digits server_hint.now).rows
-        + digits_per_record layout.now * length x.old }
+        + digits_per_record of.now.layout.now * length x.old }
     requires x_made { HasFirst (S.digits server_hint.now).rows (times_vector
-        (S.digits server_hint.now) (part_of_query layout.now query.now part)) x.old }
-    requires y_made { part + 1 < digits_per_record layout.now →
+        (S.digits server_hint.now)
+        (part_of_query of.now.layout.now of.now.query.now of.now.part)) x.old }
+    requires y_made { of.now.part + 1 < digits_per_record of.now.layout.now →
         HasFirst (S.digits server_hint.now).rows (times_vector
-        (S.digits server_hint.now) (part_of_query layout.now query.now (part + 1))) y.old }
-    ensures next { result ≤ digits_per_record layout.now }
-    ensures further { part < result }
+        (S.digits server_hint.now)
+        (part_of_query of.now.layout.now of.now.query.now (of.now.part + 1))) y.old }
+    ensures next { result ≤ digits_per_record of.now.layout.now }
+    ensures further { of.now.part < result }
     ensures joined { (prefix : List ℕ) → length prefix ≡ (S.digits server_hint.now).rows →
-        HasFirst ((S.digits server_hint.now).rows + part * length x.old) (prefix ++
-        part_answers_of layout.now (S.digits server_hint.now) first.now query.now) words.old →
+        HasFirst ((S.digits server_hint.now).rows + of.now.part * length x.old) (prefix ++
+        part_answers_of of.now.layout.now (S.digits server_hint.now) first.now of.now.query.now)
+        words.old →
         HasFirst ((S.digits server_hint.now).rows + result * length x.old) (prefix ++
-        part_answers_of layout.now (S.digits server_hint.now) first.now query.now) words.new }
+        part_answers_of of.now.layout.now (S.digits server_hint.now) first.now of.now.query.now)
+        words.new }
     ensures x_len { length x.new ≡ length x.old }
     ensures y_len { length y.new ≡ length y.old }
     ensures words_len { length words.new ≡ length words.old }
 {
-    let parts = layout.digits_per_record();
-    end_part(kernel, layout, server_hint, first, query, part, x, words);
-    let next = part + 1;
-    if next >= parts {
-        return next;
+    let parts = of.layout.digits_per_record();
+    end_part(kernel, of, server_hint, first, x, words);
+    let next = QueryPart {
+        part: of.part + 1,
+        ..*of
+    };
+    if next.part >= parts {
+        return next.part;
     }
-    end_part(kernel, layout, server_hint, first, query, next, y, words);
-    next + 1
+    end_part(kernel, &next, server_hint, first, y, words);
+    next.part + 1
 }
 
 // Makes the hint of the digits of the first layer's answer, and writes its words to the beginning
@@ -304,31 +317,29 @@ fn put_column_rows<K: Kernel, S: DigitStore>(
 // is one, for the part after it, and returns how many are there then.
 fn put_part_rows<K: Kernel, S: DigitStore>(
     kernel: K,
-    layout: &Layout,
+    of: &QueryPart<'_>,
     server_hint: &S,
-    query: &[u32],
-    part: usize,
     most_digits: usize,
     made: usize,
     x_out: &mut [u32],
     y_out: &mut [u32],
 ) -> usize
-    requires query { length query.now ≡ double_query_count layout.now }
-    requires server_cols { (S.digits server_hint.now).cols ≡ digit_rows layout.now }
-    requires part { part < digits_per_record layout.now }
+    requires query { length of.now.query.now ≡ double_query_count of.now.layout.now }
+    requires server_cols { (S.digits server_hint.now).cols ≡ digit_rows of.now.layout.now }
+    requires part { of.now.part < digits_per_record of.now.layout.now }
     requires within { made ≤ (S.digits server_hint.now).rows }
     requires x_room { (S.digits server_hint.now).rows ≤ length x_out.old }
     requires y_room { (S.digits server_hint.now).rows ≤ length y_out.old }
     requires x_so_far { HasFirst made (times_vector (S.digits server_hint.now)
-        (part_of_query layout.now query.now part)) x_out.old }
-    requires y_so_far { part + 1 < digits_per_record layout.now →
+        (part_of_query of.now.layout.now of.now.query.now of.now.part)) x_out.old }
+    requires y_so_far { of.now.part + 1 < digits_per_record of.now.layout.now →
         HasFirst made (times_vector (S.digits server_hint.now)
-        (part_of_query layout.now query.now (part + 1))) y_out.old }
+        (part_of_query of.now.layout.now of.now.query.now (of.now.part + 1))) y_out.old }
     ensures x { HasFirst result (times_vector (S.digits server_hint.now)
-        (part_of_query layout.now query.now part)) x_out.new }
-    ensures y { part + 1 < digits_per_record layout.now →
+        (part_of_query of.now.layout.now of.now.query.now of.now.part)) x_out.new }
+    ensures y { of.now.part + 1 < digits_per_record of.now.layout.now →
         HasFirst result (times_vector (S.digits server_hint.now)
-        (part_of_query layout.now query.now (part + 1))) y_out.new }
+        (part_of_query of.now.layout.now of.now.query.now (of.now.part + 1))) y_out.new }
     ensures within { result ≤ (S.digits server_hint.now).rows }
     ensures x_len { length x_out.new ≡ length x_out.old }
     ensures y_len { length y_out.new ≡ length y_out.old }
@@ -339,10 +350,14 @@ fn put_part_rows<K: Kernel, S: DigitStore>(
         return made;
     }
     let count = rows_in_step(most_digits, server_hint.cols(), left);
-    let parts = layout.digits_per_record();
-    let x = query_part(layout, query, part);
-    if part + 1 < parts {
-        let y = query_part(layout, query, part + 1);
+    let parts = of.layout.digits_per_record();
+    let x = part_words(of);
+    let next = QueryPart {
+        part: of.part + 1,
+        ..*of
+    };
+    if next.part < parts {
+        let y = part_words(&next);
         put_two_rows(kernel, server_hint, x, y, made, count, x_out, y_out);
     } else {
         put_rows(kernel, server_hint, x, made, count, x_out);
@@ -552,17 +567,12 @@ impl AnswerSteps {
             return 0;
         }
         let (layout, x, y) = (&self.layout, &mut self.x, &mut self.y);
-        let now_made = put_part_rows(
-            kernel,
+        let of = QueryPart {
             layout,
-            server_hint,
             query,
             part,
-            most_digits,
-            made,
-            x,
-            y,
-        );
+        };
+        let now_made = put_part_rows(kernel, &of, server_hint, most_digits, made, x, y);
         let read = digits_read(made, now_made, server_hint.cols());
         if now_made < server_hint.rows() {
             self.stage = Stage::Parts(part, now_made);
@@ -605,7 +615,12 @@ impl AnswerSteps {
     {
         let (layout, first, words) = (&self.layout, &self.first, &mut self.words);
         let (x, y) = (&mut self.x, &mut self.y);
-        let next = end_both(kernel, layout, server_hint, first, query, part, x, y, words);
+        let of = QueryPart {
+            layout,
+            query,
+            part,
+        };
+        let next = end_both(kernel, &of, server_hint, first, x, y, words);
         self.stage = Stage::Parts(next, 0);
     }
 }

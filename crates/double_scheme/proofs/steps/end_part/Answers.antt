@@ -8,15 +8,15 @@ use Rattle.double_scheme.proofs.steps.end_part.Goals as goal
 
 pub returns-clause-joined : goal.returns-clause-joined
 returns-clause-joined g c prefix long before =
-    let l : Shape = c.args.layout.now in
+    let l : Shape = c.args.of.now.layout.now in
     let h : WordMatrix = g.S.DigitStore.digits c.args.server_hint.now in
     let first : WordMatrix = c.args.first.now in
-    let query : List ℕ = c.args.query.now in
-    let d : ℕ = c.args.part in
+    let query : List ℕ = c.args.of.now.query.now in
+    let d : ℕ = c.args.of.now.part in
     let whole : List ℕ = prefix ++ part_answers_of l h first query in
     let count : ℕ = length c.args.made.now in
     let made : c.finish_part.new.words ≡ part_answer_of h first (part_of_query l query d) =
-    c.finish_part.ensures ∙ ap (part_answer_of h first) c.query_part-x.ensures.value in
+    c.finish_part.ensures ∙ ap (part_answer_of h first) c.part_words.ensures.value in
     let len : length c.finish_part.new.words ≡ count = ap length made ∙ length-part h first (part_of_query l query d) ∙ sym c.requires.room in
     let place : c.rows.result + d * length c.finish_part.new.words ≡ h.rows + d * count =
     ap (λ n. n + d * length c.finish_part.new.words) c.rows.ensures.value ∙ ap (λ n. h.rows + d * n) len in
