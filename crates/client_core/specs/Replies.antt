@@ -42,12 +42,13 @@ faulty c f = record { state = record c { failed = true }; reaction = Fails f }
 abbrev pub ended : ClientState → Event → AfterReply
 ended c e = record { state = record c { call = Idle }; reaction = Reports e }
 
--- a reply has to be borne out by what is known of the server: else it is a bad one
+-- what a reply leads to that has to be borne out by what is known of the server: else it is a bad
+-- one
 abbrev pub if_known : ClientState → Option ServerInfo → (ServerInfo → Bool) → (ServerInfo → AfterReply) → AfterReply
 if_known c None is_right after = faulty c BadReply
 if_known c (Some k) is_right after = if is_right k then after k else faulty c BadReply
 
--- and by the hint held
+-- what a reply leads to that has to be borne out by the hint held, too
 abbrev pub if_held : ClientState → Option ServerInfo → Option Hint → (ServerInfo → Hint → Bool) → (ServerInfo → Hint → AfterReply) → AfterReply
 if_held c known None is_right after = faulty c BadReply
 if_held c known (Some h) is_right after = if_known c known (λ k. is_right k h) (λ k. after k h)

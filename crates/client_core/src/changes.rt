@@ -5,7 +5,12 @@ ghost use Rattle.digit_pack.specs.Layout.{digit_rows};
 ghost use Rattle.hint_changes.specs.Entries.{AreEntries};
 ghost use Rattle.pir_schemes.specs.Plans.{is_slot_of};
 ghost use Rattle.client_core.specs.States.{IsState, IsKnown, shape_known};
-ghost use Rattle.client_core.specs.Replies.{have_slots, hint_with_entries, is_changes, with_current};
+ghost use Rattle.client_core.specs.Replies.{
+  have_slots,
+  hint_with_entries,
+  is_changes,
+  with_current,
+};
 ghost use Rattle.client_core.specs.Kinds.{takes_changes};
 
 use crate::replies::{current_of, ends, fails};

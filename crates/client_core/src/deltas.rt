@@ -5,7 +5,13 @@ ghost use Rattle.digit_pack.specs.Layout.{digit_rows};
 ghost use Rattle.frame_codec.specs.Rows.{rows_in};
 ghost use Rattle.matrix_u32.specs.Matrix.{with_row};
 ghost use Rattle.client_core.specs.States.{IsState, IsKnown};
-ghost use Rattle.client_core.specs.Replies.{are_ascending, is_delta, row_numbers, with_current, with_rows};
+ghost use Rattle.client_core.specs.Replies.{
+  are_ascending,
+  is_delta,
+  row_numbers,
+  with_current,
+  with_rows,
+};
 ghost use Rattle.client_core.specs.Kinds.{takes_delta, takes_no_delta};
 
 use crate::parts::Parts;

@@ -5,8 +5,23 @@ ghost use Rattle.std.specs.Prelude.{OnErr, IfSome, IfNone, MatchOption, true, fa
 ghost use Rattle.pir_schemes.specs.Retrievals.{hint_rows as rows_of_hint};
 ghost use Rattle.pir_schemes.specs.Retrievals.{answer_count as words_of_answer, reading};
 ghost use Rattle.client_core.specs.States.{IsState, IsKnown, shape_known};
-ghost use Rattle.client_core.specs.Replies.{faulty, ended, more_parts, event_of, reaction_to_stale, is_current, with_current};
-ghost use Rattle.client_core.specs.Kinds.{takes_welcome, takes_part, takes_answer, takes_stale, takes_done, takes_refused};
+ghost use Rattle.client_core.specs.Replies.{
+  faulty,
+  ended,
+  more_parts,
+  event_of,
+  reaction_to_stale,
+  is_current,
+  with_current,
+};
+ghost use Rattle.client_core.specs.Kinds.{
+  takes_welcome,
+  takes_part,
+  takes_answer,
+  takes_stale,
+  takes_done,
+  takes_refused,
+};
 
 use crate::calls::Retrieval;
 use crate::parts::Parts;

@@ -114,15 +114,15 @@ hint_part_words w n part = take (n * split_count w) part
 abbrev pub first_words : ℕ → ℕ → List ℕ → List ℕ
 first_words w n part = drop (n * split_count w) part
 
--- the words that the former give: of the digit's row of D A1
+-- the digit's row of D A1, which the words of the server's hint times the query give
 abbrev pub row_read : ℕ → ℕ → WordMatrix → List ℕ → List ℕ → List ℕ
 row_read w n client_hint s2 part = list_of n (second_word w client_hint s2 (hint_part_words w n part))
 
--- the word that the latter give: of D c1, in the digit's row
+-- the word of D c1 in the digit's row, which the words of the first answer times the query give
 abbrev pub word_read : ℕ → ℕ → WordMatrix → List ℕ → List ℕ → ℕ
 word_read w n h s2 part = second_word w h s2 (first_words w n part) 0
 
--- the digit that a part gives: this word, stripped by that row times the first secret, and rounded
+-- the digit that a part gives: that word, less that row times the first secret, rounded
 abbrev pub part_read : ℕ → ℕ → WordMatrix → WordMatrix → List ℕ → List ℕ → List ℕ → ℕ
 part_read w n client_hint h s1 s2 part = nearest w (stripped (word_read w n h s2 part) (row_read w n client_hint s2 part) s1)
 

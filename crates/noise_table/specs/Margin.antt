@@ -18,6 +18,7 @@ noise_sum x e = signed_sum_below (length x) (λ j. pos (slice_index x j) *ℤ sl
 abbrev pub IsQuiet : ℕ → List ℕ → List ℤ → Type 0
 IsQuiet w x e = unsigned_abs (noise_sum x e) < delta w / 2
 
--- however the noise falls within its bound of 27, a row of that many digits is quiet
+-- a row of so many digits is quiet whatever its noise is: no noise is above 27, and no digit above
+-- 2 ^ w - 1
 abbrev pub IsCertain : ℕ → ℕ → Type 0
 IsCertain w terms = 27 * (2 ^ w - 1) * terms < delta w / 2

@@ -25,7 +25,7 @@ stripped word hint_row s = residue (pos word -ℤ pos (dot hint_row s))
 abbrev pub IsNearest : ℕ → ℕ → ℕ → Type 0
 IsNearest w word d = (d < 2 ^ w) × (residue (pos word -ℤ (pos (delta w * d) -ℤ pos (delta w / 2))) < delta w)
 
--- that digit, as a number: half of delta is added on the circle, and the rest of the division by
--- delta dropped
+-- the digit to whose multiple of delta a word is nearest: half of delta is added modulo 2 ^ 32, and
+-- the remainder of the division by delta dropped
 unfoldable pub nearest : ℕ → ℕ → ℕ
 nearest w word = (word + delta w / 2) % 2 ^ 32 / delta w
