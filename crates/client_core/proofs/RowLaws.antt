@@ -19,8 +19,8 @@ use Rattle.client_core.specs.declared.state.CallFault.TheVariants.{NotReady, Bus
 use Rattle.client_core.specs.declared.state.ClientFault.TheVariants.{BadReply}
 use Rattle.client_core.specs.States.{shape_known, is_idle, is_ready, known_version, known_count, scheme_held}
 use Rattle.client_core.specs.Calls.{Ask, state_after_call, call_words}
-use Rattle.client_core.specs.Replies.{AfterReply, reaction_to_reply, plan_given, faulty, ended, event_of, is_answer, with_current, reaction_to_stale}
-use Rattle.client_core.specs.Kinds.{answered, takes_welcome, takes_part, takes_answer, takes_stale, takes_delta, takes_changes, takes_no_delta, takes_done, takes_refused}
+use Rattle.client_core.specs.Replies.{AfterReply, reaction_to_reply, plan_given, faulty, ended, is_answer, with_current, reaction_to_stale}
+use Rattle.client_core.specs.Kinds.{answered, takes_welcome, takes_part, takes_answer, takes_stale, takes_delta, takes_changes, takes_no_delta, takes_done, takes_refused, event_of}
 use Rattle.client_core.specs.Feeding.{Course, start, course_after_reply, course_more, runs, takes_all}
 use Rattle.client_core.specs.Resuming.{HasRowsOf, holding, course_holding, RowsOfTheRecordSuffice}
 

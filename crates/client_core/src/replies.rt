@@ -9,7 +9,6 @@ ghost use Rattle.client_core.specs.Replies.{
   faulty,
   ended,
   more_parts,
-  event_of,
   reaction_to_stale,
   is_current,
   with_current,
@@ -21,6 +20,7 @@ ghost use Rattle.client_core.specs.Kinds.{
   takes_stale,
   takes_done,
   takes_refused,
+  event_of,
 };
 
 use crate::calls::Retrieval;

@@ -43,8 +43,8 @@ use Rattle.client_core.specs.declared.state.Call.TheVariants.{Idle, Hello, Sync,
 use Rattle.client_core.specs.declared.state.ClientFault.TheVariants.{BadReply}
 use Rattle.client_core.specs.declared.state.Reaction.TheVariants.{Asks}
 use Rattle.client_core.specs.States.{is_layout, shape_known, scheme_held}
-use Rattle.client_core.specs.Replies.{AfterReply, reaction_to_reply, more_parts, is_accepted_welcome, is_part, is_answer, is_current, with_current, are_ascending, are_entries, have_slots, is_delta, is_changes, hint_with_entries, event_of, event_read, ended, faulty}
-use Rattle.client_core.specs.Kinds.{takes_welcome, takes_part, takes_answer, takes_stale, takes_no_delta, takes_refused, takes_asked_part, answered}
+use Rattle.client_core.specs.Replies.{AfterReply, reaction_to_reply, more_parts, is_accepted_welcome, is_part, is_answer, is_current, with_current, are_ascending, are_entries, have_slots, is_delta, is_changes, hint_with_entries, event_read, ended, faulty}
+use Rattle.client_core.specs.Kinds.{takes_welcome, takes_part, takes_answer, takes_stale, takes_no_delta, takes_refused, takes_asked_part, answered, event_of}
 use Rattle.client_core.specs.declared.state.Event.TheVariants.{Synced}
 use Rattle.client_core.specs.Laws.{rows_of}
 use Rattle.client_core.specs.Feeding.{sends_of, fault_of}
