@@ -50,8 +50,8 @@ if_known c (Some k) is_right after = if is_right k then after k else faulty c Ba
 
 -- what a reply leads to that has to be borne out by the hint held, too
 abbrev pub if_held : ClientState → Option ServerInfo → Option Hint → (ServerInfo → Hint → Bool) → (ServerInfo → Hint → AfterReply) → AfterReply
-if_held c known None is_right after = faulty c BadReply
-if_held c known (Some h) is_right after = if_known c known (λ k. is_right k h) (λ k. after k h)
+if_held c (Some k) (Some h) is_right after = if is_right k h then after k h else faulty c BadReply
+if_held c _ _ is_right after = faulty c BadReply
 
 -- ---- Welcome
 
