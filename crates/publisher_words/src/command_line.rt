@@ -136,7 +136,7 @@ const IMPORT: CommandText = CommandText {
         A line is 'INDEX HEX' for a record that is replaced, '+ HEX' for one that is appended, or \
         the same with a comma for the space; a first line\n\
         'index,hex' is skipped. HEX is the record's bytes as two hex digits each, or - for none. A \
-        later line of an INDEX stands in the stead of an earlier one.\n\
+        later line of an INDEX replaces an earlier one.\n\
         If a line is none of these, or its change can't be made, nothing is in the draft, and \
         standard error has 'line NUMBER: bad'.\n\n\
         Example: printf '0 0a\\n\

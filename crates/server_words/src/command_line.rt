@@ -340,6 +340,7 @@ const EXIT_STATUSES: &str = "Without a command: once.\n\n\
         \n  Locked         another process serves or replaces the file\
         \n  Exists         something stands where make --new is to make a file\
         \n  Connect        the port can't be listened on\
+        \n  Input          with --until-eof, standard input is a file or the null device\
         \n  BadInput       the input of once can't be served; its last reply is Refused 1\
         \n  TurnsUsedUp    more reads than a session has\
         \n  Memory         memory was refused (status 4)\n\n\

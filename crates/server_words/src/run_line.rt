@@ -188,9 +188,9 @@ pub const RUN: CommandText = CommandText {
         Argument::Optional {
             name: "draft",
             value: "END",
-            help: "With what a draft ends: its publication alone, or session: also the last \
-                session that edited it, so that what a publication cut short left is not published \
-                with the next one (publication if not given)",
+            help: "When a draft ends: with publication only when it is published; with session \
+                also when the last session that edited it ends, so that what a push that was cut \
+                short left is not published with the next one (publication if not given)",
         },
         Argument::Flag {
             name: "quiet",
