@@ -42,13 +42,13 @@ faulty c f = record { state = record c { failed = true }; reaction = Fails f }
 abbrev pub ended : ClientState → Event → AfterReply
 ended c e = record { state = record c { call = Idle }; reaction = Reports e }
 
--- what a reply leads to that has to be borne out by what is known of the server: else it is a bad
--- one
+-- what a reply leads to that has to agree with what is known of the server: `after`, if `is_right`
+-- holds of that; a bad reply if it doesn't, or if nothing is known yet
 abbrev pub if_known : ClientState → Option ServerInfo → (ServerInfo → Bool) → (ServerInfo → AfterReply) → AfterReply
 if_known c None is_right after = faulty c BadReply
 if_known c (Some k) is_right after = if is_right k then after k else faulty c BadReply
 
--- what a reply leads to that has to be borne out by the hint held, too
+-- what a reply leads to that has to agree with the hint held, too: a bad reply also if none is held
 abbrev pub if_held : ClientState → Option ServerInfo → Option Hint → (ServerInfo → Hint → Bool) → (ServerInfo → Hint → AfterReply) → AfterReply
 if_held c (Some k) (Some h) is_right after = if is_right k h then after k h else faulty c BadReply
 if_held c _ _ is_right after = faulty c BadReply
@@ -66,7 +66,8 @@ abbrev pub is_accepted_welcome : ℕ → Plan → ℕ → ℕ → Bool
 is_accepted_welcome profile p count version =
     accepts_profile p profile && (is_form p.form p.record_len && (is_layout (shape_at p count) && ((nat_le 1 p.dimension && nat_le p.dimension 1024) && nat_lt 0 version)))
 
--- what it names is known from then on
+-- what a Welcome leads to: if it is accepted, what it names is known from then on; else it is a bad
+-- one
 abbrev pub welcomed : ClientState → Plan → ℕ → ℕ → AfterReply
 welcomed c p count version =
     if is_accepted_welcome c.profile p count version
@@ -149,7 +150,8 @@ with_rows m (r ∷ rs) = with_rows (with_row m r.number r.words) rs
 abbrev pub hint_with_rows : Hint → ℕ → RowList → Hint
 hint_with_rows h version rows = record h { version = version; matrix = with_rows h.matrix (rows_in rows) }
 
--- its rows replace those of the hint held, whose version and count are the last known then
+-- what a Delta leads to: its rows replace those of the hint held, and the version and the count
+-- that it names are the last known then
 abbrev pub moved : Option ServerInfo → Option Hint → ClientState → ℕ → ℕ → ℕ → ℕ → RowList → AfterReply
 moved known hint c asked since now count rows =
     if_held c known hint (λ k h. is_delta k asked since now count rows.dimension (row_numbers rows))
@@ -178,7 +180,8 @@ hint_with_entries p h version count entries =
     let l = shape_at p count in
     record h { version = version; matrix = moved_matrix l (first_public l p.dimension p.seed) (changes_in p.record_len entries) h.matrix }
 
--- its entries move the hint held, whose version and count are the last known then
+-- what Changes lead to: the changes in their entries move the hint held, and the version and the
+-- count that they name are the last known then
 abbrev pub changed : Option ServerInfo → Option Hint → ClientState → ℕ → ℕ → ℕ → ℕ → List ℕ → AfterReply
 changed known hint c asked since now count entries =
     if_held c known hint (λ k h. is_changes k asked since now count entries)
@@ -186,8 +189,8 @@ changed known hint c asked since now count entries =
 
 -- ---- NoDelta
 
--- the hint held is dropped, and the sync goes on by the parts of the version named, which is the
--- last known
+-- what a NoDelta leads to: the hint held is dropped, and the sync goes on by the parts of the
+-- version that it names, which is the last known then, whichever version was asked about
 abbrev pub goes_by_parts : Option ServerInfo → ClientState → ℕ → ℕ → AfterReply
 goes_by_parts known c version count =
     if_known c known (λ k. is_current k version count) (λ k. record {
@@ -197,9 +200,12 @@ goes_by_parts known c version count =
 
 -- ---- any frame
 
--- What a frame leads to during a call. A part and an answer have to be those asked for, with all
--- their words; Done may name any version; Refused ends every call, with any code. A sync by parts
--- that ends without its hint drops the parts that came. Any other frame is a bad reply.
+-- What a frame leads to during a call. A Welcome may come after Hello; a HintPart or Stale during a
+-- sync by parts; a Delta during a sync by rows, Changes during one by records, NoDelta during
+-- either; an Answer or Stale during an ask; Done, with any version, during an edit, an append or a
+-- publication; Refused, with any code, during every call. A part and an answer have to be those
+-- asked for, with all their words. A sync by parts that ends without its hint drops the parts that
+-- came. Any other frame, and any frame during no call, is a bad reply.
 abbrev pub reaction_during : Frame → Call → ClientState → AfterReply
 reaction_during (frame.Welcome profile width record_len groups count version dimension seed) Hello c =
     welcomed c (record { form = profile; width = width; record_len = record_len; groups = groups; dimension = dimension; seed = seed })
@@ -224,6 +230,7 @@ reaction_during (frame.Refused code) (Sync s v p) c = ended (record c { parts = 
 reaction_during (frame.Refused code) _ c = ended c (Refused code)
 reaction_during _ _ c = faulty c BadReply
 
--- what a frame leads to
+-- what a frame leads to, by the outstanding call, if the client has not failed: a failed one takes
+-- no frame
 abbrev pub reaction_to_reply : ClientState → Frame → AfterReply
 reaction_to_reply c f = reaction_during f c.call c

@@ -138,7 +138,10 @@ pub record IsLayout (l : Shape) : Type 0 where
   pub groups : HasGroups l
   pub count : HasCount l
 
--- whether it is within every limit
+-- whether a shape is within every limit: the side; digits of 6 to 10 bits, or of 9 at most if it is
+-- wide; records of 1 to 256 bytes; a group or more, in rows that the side has room for, and with so
+-- few words of query parts that a frame has room for them; a record or more, in columns that the
+-- side has room for
 unfoldable pub is_layout : Shape → Bool
 is_layout l =
     nat_le l.side wide_side

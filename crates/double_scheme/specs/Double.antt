@@ -16,7 +16,8 @@ use Rattle.simple_scheme.specs.Simple.{secret, simple_query, IsQuietRetrieval}
 abbrev pub part_secret : List ℕ → ℕ → ℕ → ℕ → List ℕ
 part_secret seed number n d = words_from seed (4 * number + 2) (d * n) n
 
--- its noise: the noise of the stream after, from place d rows on
+-- the noise of part d: that of `rows` words of the client's stream 4 number + 3, from place d rows
+-- on
 abbrev pub part_noise : List ℕ → ℕ → ℕ → ℕ → List ℤ
 part_noise seed number rows d = noise_from seed (4 * number + 3) (d * rows) rows
 
@@ -48,7 +49,7 @@ double_query_count l = digit_cols l + digits_per_record l * digit_rows l
 abbrev pub first_query_of : Shape → WordMatrix → List ℕ → ℕ → ℕ → List ℕ
 first_query_of l a1 seed number i = simple_query l a1 seed number i
 
--- part d of it: the encryption of digit d's row
+-- part d of the query for record i: the encryption of the row in which the record has its digit d
 abbrev pub part_query_of : Shape → WordMatrix → List ℕ → ℕ → ℕ → ℕ → List ℕ
 part_query_of l a2 seed number i d =
     cipher l.width a2 (part_secret seed number a2.cols d) (part_noise seed number a2.rows d) (first_row l i + d)
@@ -122,7 +123,8 @@ row_read w n client_hint s2 part = list_of n (second_word w client_hint s2 (hint
 abbrev pub word_read : ℕ → ℕ → WordMatrix → List ℕ → List ℕ → ℕ
 word_read w n h s2 part = second_word w h s2 (first_words w n part) 0
 
--- the digit that a part gives: that word, less that row times the first secret, rounded
+-- the digit that a part gives: its word of D c1, less its row of D A1 times the first secret,
+-- rounded to the nearest digit
 abbrev pub part_read : ℕ → ℕ → WordMatrix → WordMatrix → List ℕ → List ℕ → List ℕ → ℕ
 part_read w n client_hint h s1 s2 part = nearest w (stripped (word_read w n h s2 part) (row_read w n client_hint s2 part) s1)
 

@@ -95,7 +95,8 @@ unless_same same c more = cond same more (c ∷ more)
 abbrev pub change_of : List (List ℕ) → List (List ℕ) → ℕ → ChangedRecord
 change_of before after i = record { index = i; old = record_at before i; new = record_at after i }
 
--- the changes of listed records, each of which is left out if it is none
+-- the changes of the records in a list, in its order: a record with the same bytes before and after
+-- is left out
 abbrev pub changes_at : List (List ℕ) → List (List ℕ) → List ℕ → List ChangedRecord
 changes_at before after [] = []
 changes_at before after (i ∷ more) =

@@ -53,8 +53,8 @@ abbrev pub AnswersHaveTheirLength : Type 0
 AnswersHaveTheirLength = (s : Scheme) (p : Plan) (records : List (List ℕ)) (words : List ℕ) →
     length (answer_words s p records words) ≡ answer_count s (shape_at p (length records)) p.dimension
 
--- a shape on which every retrieval is quiet: rows of as many digits as there are columns are
--- certain, and for DoublePIR rows of as many as there are rows, too
+-- a certain shape, on which every retrieval is quiet: a row with a digit for each column of the
+-- digit matrix is certain, and for DoublePIR also one with a digit for each of its rows
 abbrev pub IsCertainOf : Scheme → Shape → Type 0
 IsCertainOf Simple l = IsCertain l.width (digit_cols l)
 IsCertainOf Double l = IsCertain l.width (digit_cols l) × IsCertain l.width (digit_rows l)

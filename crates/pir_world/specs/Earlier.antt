@@ -55,7 +55,8 @@ pub record IsSentLast (k : ℕ) (f : Frame) (first log : List Entry) : Type 0 wh
   pub log_is : log ≡ first ++ Sent k f ∷ since
   pub aside : AllByRecursion (IsAside k) since
 
--- then the frame was served with this reply, and again nothing followed but refused calls
+-- after the first entries client k sent this frame, then it was served with this reply, and nothing
+-- of client k came in between or after that but refused calls
 pub record IsServedLast (k : ℕ) (f reply : Frame) (first log : List Entry) : Type 0 where
   pub now : ℕ
   pub before : List Entry
@@ -84,8 +85,10 @@ pub record IsEndOfAsk (x : Setting) (h : History) (seed : List ℕ) (k : ℕ) (r
   pub asked : IsAsked x h seed k r query first
   pub served : IsServedLast k query reply first log
 
--- A part of a hint was asked for: the first after an accepted sync, or after what changed was asked
--- for in vain, and each other after the one before it was served.
+-- What came before an ask for a part of a hint: for the first part an accepted sync of its scheme,
+-- or an ask for what changed that was served with NoDelta; for each other part the ask for the one
+-- before it, which was served with that part. The version is that of the part before or of the
+-- NoDelta; after a sync nothing is said of it.
 abbrev pub IsAskForPart : ℕ → ℕ → ℕ → ℕ → List Entry → Type 0
 IsAskForPart k scheme version part log =
     ((first : List Entry) × (s : Scheme) × (log ≡ first ++ Called k (Sync s) None ∷ []) × (scheme ≡ scheme_byte s) × (part ≡ 0))
@@ -102,7 +105,8 @@ IsAskForChanges k since log =
 
 -- What came before an entry: each frame sent is that of a call that was accepted last, or asks for
 -- a part of a hint; each frame served was sent; each retrieval that ended was asked for and
--- served, and each other event came of a reply to the last frame.
+-- served; and before each other event the client's last frame was served, with some reply. Which
+-- event a reply makes, the run itself says.
 abbrev pub HasEarlier : Setting → List (List ℕ) → History → List Entry → Entry → Type 0
 HasEarlier x seeds h before (Sent k (frame.Query scheme version words)) =
     (r : Retrieval) × IsAsked x h (seed_of seeds k) k r (frame.Query scheme version words) before

@@ -24,9 +24,10 @@ use Rattle.pir_world.specs.Runs.{State, Link, Retrieval, Entry, Served, Ended, P
 use Rattle.pir_world.specs.Versions.{HasVersion, IsVersion, given_words, record_read, IsQuietOn, seed_of, HintIs, name_of}
 use Rattle.pir_world.specs.Earlier.{AllWithEarlier, HasEarlier, hint_named}
 
--- An answered retrieval: the answer is that of the version named, and the event is what the answer
--- says. If the retrieval's noise sums stay below half of delta, and on a certain shape always, that
--- is the record's bytes in this version.
+-- An answered retrieval: there is the version that it names, with a record of its index; the answer
+-- is this version's, and the event is what the answer reads as. If the retrieval's noise sums stay
+-- below half of delta, and on a certain shape always, the event has exactly the record's bytes in
+-- this version.
 pub record IsAnswered (x : Setting) (h : History) (seed : List ℕ) (r : Retrieval) (reply : Frame) (event : Event) : Type 0 where
   pub records : List (List ℕ)
   pub version_is : HasVersion h r.version records
@@ -36,7 +37,9 @@ pub record IsAnswered (x : Setting) (h : History) (seed : List ℕ) (r : Retriev
   pub quiet : IsQuietOn x.plan records seed r → event ≡ Retrieved r.index r.version (record_at records r.index)
   pub certain : IsCertainOf r.scheme (shape_at x.plan (length records)) → event ≡ Retrieved r.index r.version (record_at records r.index)
 
--- A stale retrieval: a later version than the one named was current, and the client got its number.
+-- A stale retrieval: the reply names a version that there is, later than the one that the retrieval
+-- names, with its count of records, and the client reports that version. That it was current when
+-- the query was served, the entry of that query says (`IsRightReply`).
 pub record IsStale (h : History) (r : Retrieval) (reply : Frame) (event : Event) : Type 0 where
   pub now : ℕ
   pub records : List (List ℕ)
@@ -72,7 +75,8 @@ IsRightEvent h (Refused code) = Unit {0}
 IsRightEvent h _ = ⊥
 
 -- An entry is right by itself: a query names a scheme, and was served rightly; a retrieval ended
--- rightly; any other event is right; a version published is one that there is; no client fails.
+-- rightly; any other event is right; a version published is one that there is; no client fails. Of
+-- every other entry, as a refused edit or a frame served that is no query, nothing is asked here.
 abbrev pub IsRight : Setting → List (List ℕ) → History → Entry → Type 0
 IsRight x seeds h (Served k (frame.Query scheme version words) now reply) =
     (s : Scheme) × (scheme ≡ scheme_byte s) × IsRightReply x h s version now words reply
@@ -96,8 +100,8 @@ pub record IsOpening (h : Header) (records : List ℕ) : Type 0 where
   pub sound : IsSound h records
   pub bytes : All (λ b. b < 2 ^ 8) records
 
--- a run of these steps leads to this state from the opening of a snapshot, which a store accepts and
--- whose records are bytes, with a client for each seed
+-- a run of these steps leads to this state from the opening of a snapshot, with a client for each
+-- seed; a store accepts the snapshot, and its records are bytes
 pub record IsRunFrom (h : Header) (records : List ℕ) (seeds : List (List ℕ)) (steps : List Step) (s : State) : Type 0 where
   pub sound : IsSound h records
   pub bytes : All (λ b. b < 2 ^ 8) records

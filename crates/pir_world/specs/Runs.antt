@@ -161,14 +161,15 @@ reacts k s c reply (Asks scheme version part) = Sent k (frame.HintAsk (scheme_by
 reacts k s c reply (Reports e) = reports k s c reply e ∷ []
 reacts k s c reply (Fails fault) = Plain (Failed k fault) ∷ []
 
--- what client k makes of replies: its state after them, the frames that it sends, and what is written
--- down
+-- what client k makes of replies: its state after them, the frames that it sends, and what is
+-- written down
 pub record Receipt : Type 0 where
   pub client : ClientState
   pub sends : List Frame
   pub log : List Entry
 
--- replies one after another, up to a fault
+-- What client k makes of replies, one after another: the replies after a fault are dropped. What is
+-- written down of each reply names the call and the scheme of the hint that there were before it.
 abbrev pub receives : ℕ → ClientState → List Frame → Receipt
 receives k c [] = record { client = c; sends = []; log = [] }
 receives k c (f ∷ fs) =

@@ -18,21 +18,23 @@ use Rattle.pir_world.specs.Headlines.{IsOpening}
 
 -- ---- shapes
 
--- what may be seen of a client: the shape of a frame that it sends, the shape of a reply to it, and
--- whether a call of it is refused, and why
+-- what may be seen of a client: the shape of a frame that it sends; the shape of a reply to it, at
+-- the time at which the server makes that; and whether a call of it is refused, and why
 pub data Sight : Type 0 where
   Sends : (shape : FrameShape) → Sight
   Receives : (shape : FrameShape) → Sight
   Calls : (refusal : Option CallFault) → Sight
 
--- what an entry shows of client k
+-- what an entry shows of client k: of a frame or a reply its kind and length alone, of a call
+-- whether it is refused, and nothing of an event
 abbrev pub shown : ℕ → Entry → List Sight
 shown k (Sent j f) = cond (j == k) (Sends (shape_of_frame f) ∷ []) []
 shown k (Served j f now (Some reply)) = cond (j == k) (Receives (shape_of_frame reply) ∷ []) []
 shown k (Called j want why) = cond (j == k) (Calls why ∷ []) []
 shown k _ = []
 
--- two logs show the same of each client, in the same order
+-- two logs show the same of each client, in the same order; how what they show of one client lies
+-- between what they show of another is not compared
 abbrev pub HaveEqualShapes : List Entry → List Entry → Type 0
 HaveEqualShapes log other = (k : ℕ) → flat_map (shown k) log ≡ flat_map (shown k) other
 
@@ -51,7 +53,7 @@ AreStepsLike _ _ = ⊥
 
 -- ---- runs without refusals for memory or for an index that differs
 
--- no reply was refused here because the server was out of memory
+-- an entry is no frame served with a refusal for lack of memory
 abbrev pub HadMemory : Entry → Type 0
 HadMemory (Served k f now reply) = reply ≢ Some (refused Memory)
 HadMemory _ = Unit {0}
@@ -61,9 +63,9 @@ abbrev pub AskIsWithin : State → Step → Step → Type 0
 AskIsWithin s (Ask k i) other = other ≢ Ask k i → (l : Link) → slice_get s.links k ≡ Some l → refusal (ask_call i) l.client ≢ Some BadIndex
 AskIsWithin s _ other = Unit {0}
 
--- Of some steps, one after another, no ask is refused for its index whose index differs from that
--- of the other step in its place; the server has memory. An ask that is the same in both lists may
--- be any, even one of no record, or of a client that was not let in.
+-- From a state on, with a server that has memory, no step of the first list is an ask that is
+-- refused for its index, unless the other list has the same ask in its place: that may be any, even
+-- one of no record, or of a client that was not let in.
 abbrev pub AsksAreWithin : Setting → State → List Step → List Step → Type 0
 AsksAreWithin x s (step ∷ steps) (other ∷ others) = AskIsWithin s step other × AsksAreWithin x (state_after x false s step) steps others
 AsksAreWithin x s _ _ = Unit {0}
@@ -87,10 +89,11 @@ IndicesChangeNoShape = (h : Header) (records : List ℕ) (seeds : List (List ℕ
     IsPlainRun (setting_in h) (opening h records seeds) steps others last → IsPlainRun (setting_in h) (opening h records seeds) others steps last2 →
     HaveEqualShapes last.log last2.log
 
--- Each run from `start` whose steps differ from these in the indices of asks alone puts the same
--- shapes on each link as the run of these that led to `s`, and refuses of each client's calls the
--- same, if in both no reply is refused for lack of memory, and no ask whose index differs is refused
--- for its index.
+-- Take any run from `start` whose steps differ from these in the indices of asks alone, beside the
+-- run of these that led to `s`. If in neither a reply is refused for lack of memory, nor an ask
+-- whose index differs for its index, then each client has frames and replies of the same kinds and
+-- lengths in both, in the same order, and the same calls of it are refused, for the same causes.
+-- What the words of a query tell of its index is not said.
 abbrev pub HidesIndices : Setting → State → List Step → State → Type 0
 HidesIndices x start steps s = (others : List Step) (last : State) → AreStepsLike steps others →
     AllByRecursion HadMemory s.log → AsksAreWithin x start steps others →

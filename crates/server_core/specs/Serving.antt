@@ -86,11 +86,12 @@ pub record Outcome : Type 0 where
   pub standing : Standing
   pub history : History
 
--- a reply, and nothing else changes
+-- a reply after which the history is as it was, with the standing after it
 abbrev pub replies_with : Frame → Standing → History → Outcome
 replies_with reply st h = record { reply = Some reply; standing = st; history = h }
 
--- a refusal changes nothing
+-- A refusal, with the standing after it. The history stays; so does the standing, but a bad frame
+-- closes the session.
 abbrev pub refuses : Refusal → Standing → History → Outcome
 refuses why st h = replies_with (refused why) st h
 
@@ -218,8 +219,8 @@ outcome_of_frame x h st (ChangesAsk since) =
 outcome_of_frame x h st Bye = record { reply = None; standing = Closed; history = h }
 outcome_of_frame x h st _ = refuses refusal.BadFrame Closed h
 
--- whether a frame with this reply may be refused memory: there is one, and it is no greeting's, no
--- refusal, and not the current version in reply to a frame that names another
+-- whether a frame that would get this reply may be refused for lack of memory instead: not if there
+-- is no reply, or if it is a Welcome, a Stale or a refusal
 abbrev pub may_lack_memory : Option Frame → Bool
 may_lack_memory None = false
 may_lack_memory (Some (Welcome profile width record_len groups count version dimension seed)) = false

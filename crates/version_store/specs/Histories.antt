@@ -24,8 +24,9 @@ pub record StoreState : Type 0 where
   pub log : List (List ℕ)
   pub olds : List (List OldRecord)
 
--- a history: the number of the opening version, the versions before the current one, the newest
--- first, the current one, the draft, and the mark
+-- a history: the number of the opening version; the records of the versions before the current
+-- one, the newest first; those of the current one; those of the draft; and the mark, which says
+-- that an edit or an append was accepted since the last publication
 pub record History : Type 0 where
   pub first : ℕ
   pub past : List (List (List ℕ))

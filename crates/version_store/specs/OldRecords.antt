@@ -36,12 +36,13 @@ abbrev pub with_newest : KeptLog → Option OldBytes → KeptLog
 with_newest log None = log
 with_newest log (Some newest) = record log { lists = kept_within log.record_len log.most (log.lists ++ newest.records ∷ []) }
 
--- the old bytes that are kept with those of one more publication: a wide store alone keeps any
+-- what is kept of old bytes after one more publication: in a wide store the newest within both
+-- limits; in an ordinary store, which keeps none, what there was
 unfoldable pub with_olds : Plan → List (List OldRecord) → List OldRecord → List (List OldRecord)
 with_olds p lists newest = if is_wide p.form then kept_within p.record_len (most_old_bytes p) (lists ++ newest ∷ []) else lists
 
--- the old bytes that are kept of publications, the oldest first; given are the records of the
--- current version, and those of the versions before it, the newest first
+-- what is kept of old bytes, a list for each of the newest publications, the oldest first; given
+-- are the records of the current version, and those of the versions before it, the newest first
 unfoldable pub kept_olds : Plan → List (List ℕ) → List (List (List ℕ)) → List (List OldRecord)
 kept_olds p current [] = []
 kept_olds p current (before ∷ past) = with_olds p (kept_olds p before past) (olds_replaced p before current)

@@ -19,7 +19,8 @@ pub record HasSizes (h : Header) : Type 0 where
   pub low : 1 ≤ h.dimension
   pub high : h.dimension ≤ 1024
 
--- a snapshot that a store is opened with
+-- a snapshot that a store is opened with: sizes within the limits, a version from 1 on, as many
+-- bytes as its records have, and in forms of slots a slot for each record
 pub record IsSound (h : Header) (records : List ℕ) : Type 0 where
   pub sizes : HasSizes h
   pub version : 1 ≤ h.version
