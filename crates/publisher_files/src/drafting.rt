@@ -39,17 +39,55 @@ pub fn open_draft<'a, R: FileSystem>(rt: &'a R, dir: &str) -> Result<OpenDraft<'
         IsSound (header_of it.version.snapshot) it.version.snapshot.records.items) }
 {
     let folder = lock_folder(rt, dir)?;
-    let version = open_folder(rt, folder.records.as_str())?;
-    settle_log(rt, &version)?;
-    let draft = read_draft(rt, folder.draft.as_str(), &version)?;
-    if draft.file == DraftFile::Published {
-        remove_draft(rt, folder.draft.as_str())?;
+    match open_both(rt, &folder) {
+        Ok((version, draft)) => Ok(OpenDraft {
+            folder,
+            version,
+            draft,
+        }),
+        Err(failure) => {
+            // A call keeps the prover from taking apart here all that a folder has.
+            drop(folder);
+            Err(failure)
+        }
     }
-    Ok(OpenDraft {
-        folder,
-        version,
-        draft,
-    })
+}
+
+// The current version of a folder, and its draft.
+fn open_both<R: FileSystem>(
+    rt: &R,
+    folder: &LockedFolder<'_, R>,
+) -> Result<(FolderVersion, Draft), Failure>
+    ensures { IfOk result (λ it.
+        IsSound (header_of it.0.snapshot) it.0.snapshot.records.items) }
+{
+    let version = open_folder(rt, folder.records.as_str())?;
+    match draft_to_change(rt, folder, &version) {
+        Ok(draft) => Ok((version, draft)),
+        Err(failure) => {
+            drop(version);
+            Err(failure)
+        }
+    }
+}
+
+// The draft of a version, which is on the device then.
+fn draft_to_change<R: FileSystem>(
+    rt: &R,
+    folder: &LockedFolder<'_, R>,
+    version: &FolderVersion,
+) -> Result<Draft, Failure>
+    requires { IsSound (header_of version.now.snapshot) version.now.snapshot.records.items }
+{
+    settle_log(rt, version)?;
+    let draft = read_draft(rt, folder.draft.as_str(), version)?;
+    if draft.file == DraftFile::Published {
+        if let Err(failure) = remove_draft(rt, folder.draft.as_str()) {
+            drop(draft);
+            return Err(failure);
+        }
+    }
+    Ok(draft)
 }
 
 /// Appends these changes to a draft, as one entry, and returns how many places the draft changes

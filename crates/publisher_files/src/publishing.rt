@@ -7,9 +7,10 @@ ghost use Rattle.version_store.specs.Openings.{IsSound};
 use crate::causes::failed_in;
 use crate::drafting::{OpenDraft, open_draft};
 use crate::drafts::{
-    BAD_DRAFT, DraftFile, VERSIONS_USED_UP, append_to, publication_after, remove_draft,
+    BAD_DRAFT, Draft, DraftFile, VERSIONS_USED_UP, append_to, publication_after, remove_draft,
 };
 use crate::folder::LockedFolder;
+use crate::version::FolderVersion;
 use command_words::{Failed, Failure};
 use log_replay::{ReplayFault, replay_records};
 use publication_log::{Publication, PublicationBuilder, open_log};
@@ -48,17 +49,57 @@ pub fn publish_draft<R: FileSystem>(rt: &R, dir: &str) -> Result<FileVersion, Fa
         version,
         draft,
     } = open_draft(rt, dir)?;
+    let published = match drafted(rt, &folder, &version, &draft) {
+        Ok(publication) => publish_next(rt, &folder, version, publication),
+        Err(failure) => {
+            // A call keeps the prover from taking apart here all that a version has.
+            drop(version);
+            Err(failure)
+        }
+    };
+    drop(draft);
+    drop(folder);
+    published
+}
+
+// The publication of a draft of a version.
+fn drafted<R: FileSystem>(
+    rt: &R,
+    folder: &LockedFolder<'_, R>,
+    version: &FolderVersion,
+    draft: &Draft,
+) -> Result<PublicationBuilder, Failure>
+    ensures { IfOk result (λ it. it.version ≡ version.now.snapshot.version + 1) }
+{
     if draft.changes.is_empty() {
-        return Err(nothing_to_publish(rt, &folder, draft.file));
+        return Err(nothing_to_publish(rt, folder, draft.file));
     }
     let number = version.number();
     if number == u64::MAX {
         return Err(VERSIONS_USED_UP);
     }
-    let publication = publication_after(rt.alloc(), number, &draft.changes)?;
+    publication_after(rt.alloc(), number, &draft.changes)
+}
+
+// Appends the publication after a version to the log, and removes the draft.
+fn publish_next<R: FileSystem>(
+    rt: &R,
+    folder: &LockedFolder<'_, R>,
+    version: FolderVersion,
+    publication: PublicationBuilder,
+) -> Result<FileVersion, Failure>
+    requires sound { IsSound (header_of version.snapshot) version.snapshot.records.items }
+    requires next { publication.version ≡ version.snapshot.version + 1 }
+{
+    let number = version.number();
     let (snapshot, own) = version.into_parts();
-    follows(snapshot, &publication)?;
-    let has = append_to_own(rt, &own, number, &publication)?;
+    let appended = match follows(snapshot, &publication) {
+        Ok(()) => append_to_own(rt, &own, number, &publication),
+        Err(failure) => Err(failure),
+    };
+    drop(own);
+    drop(publication);
+    let has = appended?;
     // The version is published. If the draft stays, the next command finds that, and removes it.
     let _ = remove_draft(rt, folder.draft.as_str());
     Ok(has)
