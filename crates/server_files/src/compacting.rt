@@ -48,16 +48,36 @@ pub struct Compacted {
 /// Those of [`compact_file`].
 pub fn compact_pair<R: FileSystem>(rt: &R, name: &str) -> Result<Compacted, Failure> {
     let mut file = OwnFile::to_read(rt, name)?;
-    let kept = kept_file(rt, &mut file, None)?;
+    let compacted = compact_own(rt, &mut file);
+    drop(file);
+    compacted
+}
+
+// The same of a file that no other process has.
+fn compact_own<R: FileSystem>(rt: &R, file: &mut OwnFile<'_, R>) -> Result<Compacted, Failure> {
+    let kept = kept_file(rt, file, None)?;
     // What a compaction that was cut short left is removed, even if there is no log to shorten.
     remove_other_logs(rt, file.name(), kept.own.name.as_str());
-    match read_own(rt, &kept.own)? {
-        Some(log) => compact_both(rt, &mut file, kept, &log),
-        None => Ok(Compacted {
-            version: kept.read.opening.version(),
-            after: 0,
-        }),
+    match read_own(rt, &kept.own) {
+        Ok(Some(log)) => {
+            let compacted = compact_both(rt, file, kept, &log);
+            drop(log);
+            compacted
+        }
+        Ok(None) => Ok(compacted_to(kept, 0)),
+        Err(failure) => {
+            // A call keeps the prover from taking apart here all that was read.
+            drop(kept);
+            Err(failure)
+        }
     }
+}
+
+// What a file has that is kept no longer, with so many publications after its snapshot.
+fn compacted_to(kept: KeptFile, after: usize) -> Compacted {
+    let version = kept.read.opening.version();
+    drop(kept);
+    Compacted { version, after }
 }
 
 // The same of a file that has this log.
@@ -72,16 +92,10 @@ fn compact_both<R: FileSystem>(
     let publications = log.publications();
     let earlier = earlier_count(publications);
     if earlier == 0 {
-        return Ok(Compacted {
-            version: kept.read.opening.version(),
-            after: publications.count(),
-        });
+        return Ok(compacted_to(kept, publications.count()));
     }
     let kept = shortened(rt, file, kept, log)?;
-    Ok(Compacted {
-        version: kept.read.opening.version(),
-        after: publications.count().saturating_sub(earlier),
-    })
+    Ok(compacted_to(kept, publications.count().saturating_sub(earlier)))
 }
 
 /// A file that is to be served, with a log of more than 16 publications and more than so many bytes
@@ -104,13 +118,37 @@ pub fn compacted_past<R: FileSystem>(
     if !is_longer(rt, kept.own.name.as_str(), limit) {
         return Ok(kept);
     }
-    let Some(log) = read_own(rt, &kept.own)? else {
-        return Ok(kept);
-    };
+    match read_own(rt, &kept.own) {
+        Ok(Some(log)) => {
+            let kept = shortened_past(rt, file, kept, &log, limit);
+            drop(log);
+            kept
+        }
+        Ok(None) => Ok(kept),
+        Err(failure) => {
+            drop(kept);
+            Err(failure)
+        }
+    }
+}
+
+// The same with a log that was read.
+fn shortened_past<R: FileSystem>(
+    rt: &R,
+    file: &mut OwnFile<'_, R>,
+    kept: KeptFile,
+    log: &ReadLog,
+    limit: usize,
+) -> Result<KeptFile, Failure>
+    requires version { kept.read.has.version ≡ kept.read.opening.header.version }
+    requires sound { IsSound kept.read.opening.header kept.read.opening.bytes }
+    ensures version { IfOk result (λ it. it.read.has.version ≡ it.read.opening.header.version) }
+    ensures sound { IfOk result (λ it. IsSound it.read.opening.header it.read.opening.bytes) }
+{
     if log.len() <= limit || earlier_count(log.publications()) == 0 {
         return Ok(kept);
     }
-    shortened(rt, file, kept, &log)
+    shortened(rt, file, kept, log)
 }
 
 // Whether a file has more than so many bytes: then it is worth reading.
