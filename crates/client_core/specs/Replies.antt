@@ -119,9 +119,11 @@ with_current k version count = record k { version = version; count = count }
 -- the version and the count named are the last known, if these are another version than asked
 -- and a count within the limits; `after` is the state that goes on then
 abbrev pub reaction_to_stale : Option ServerInfo → ClientState → ClientState → ℕ → ℕ → ℕ → AfterReply
-reaction_to_stale known after c asked version count =
-    if_known c known (λ k. not (version == asked) && is_current k version count)
-    (λ k. ended (record after { known = Some (with_current k version count) }) (Stale version))
+reaction_to_stale None after c asked version count = faulty c BadReply
+reaction_to_stale (Some k) after c asked version count =
+    if not (version == asked) && is_current k version count
+    then ended (record after { known = Some (with_current k version count) }) (Stale version)
+    else faulty c BadReply
 
 -- ---- Delta
 
