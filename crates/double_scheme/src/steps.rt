@@ -147,7 +147,7 @@ struct QueryPart<'a> {
 }
 
 // The words of a part.
-fn part_words<'a>(of: &QueryPart<'a>) -> &'a [u32]
+fn words_of_query_part<'a>(of: &QueryPart<'a>) -> &'a [u32]
     requires query { length of.now.query.now ≡ double_query_count of.now.layout.now }
     requires part { of.now.part < digits_per_record of.now.layout.now }
     ensures value { result.now ≡ part_of_query of.now.layout.now of.now.query.now of.now.part }
@@ -197,7 +197,7 @@ fn end_part<K: Kernel, S: DigitStore>(
     ensures made_len { length made.new ≡ length made.old }
     ensures words_len { length words.new ≡ length words.old }
 {
-    finish_part(kernel, server_hint, first, part_words(of), made);
+    finish_part(kernel, server_hint, first, words_of_query_part(of), made);
     join_part(server_hint.rows() + of.part * made.len(), made, words);
 }
 
@@ -351,13 +351,13 @@ fn put_part_rows<K: Kernel, S: DigitStore>(
     }
     let count = rows_in_step(most_digits, server_hint.cols(), left);
     let parts = of.layout.digits_per_record();
-    let x = part_words(of);
+    let x = words_of_query_part(of);
     let next = QueryPart {
         part: of.part + 1,
         ..*of
     };
     if next.part < parts {
-        let y = part_words(&next);
+        let y = words_of_query_part(&next);
         put_two_rows(kernel, server_hint, x, y, made, count, x_out, y_out);
     } else {
         put_rows(kernel, server_hint, x, made, count, x_out);

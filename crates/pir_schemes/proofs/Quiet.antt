@@ -11,6 +11,7 @@ use Rattle.digit_pack.specs.Laws.{PackUnpacks}
 use Rattle.digit_pack.specs.Layout.{Shape, IsShape, IsRecord, FitsRecord, record_at, record_digits, record_bytes}
 use Rattle.simple_scheme.specs.Laws.{QuietSimpleRetrievalReadsTheRecord as SimpleReads}
 use Rattle.double_scheme.specs.Laws.{QuietDoubleRetrievalReadsTheRecord as DoubleReads}
+use Rattle.simple_scheme.specs.Simple.{hint_of}
 use Rattle.pir_schemes.specs.declared.scheme.Scheme.{Scheme}
 use Rattle.pir_schemes.specs.declared.scheme.Scheme.TheVariants.{Simple, Double}
 use Rattle.pir_schemes.specs.declared.plan.Plan.{Plan}
@@ -23,7 +24,7 @@ digits_are : SimpleReads → DoubleReads → (s : Scheme) (p : Plan) (records : 
     reading s (shape_at p (length records)) (hint_matrix s p records) seed number i
     (answer_words s p records (query_words s (shape_at p (length records)) p.dimension p.seed seed number i))
     ≡ record_digits (shape_at p (length records)) (record_at (slots p records) i)
-unfolding reading hint_matrix server_hint answer_words query_words
+unfolding reading hint_matrix hint_of server_hint answer_words query_words
 digits_are simple double Simple p records seed number i ok lt quiet =
     let l : Shape = shape_at p (length records) in
     simple l (slots p records) (first_public l p.dimension p.seed) seed number i ok lt refl quiet

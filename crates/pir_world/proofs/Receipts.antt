@@ -81,37 +81,37 @@ same_receipt : (c d : ClientState) (ss ts : List Frame) (es gs : List Entry) →
 same_receipt c d ss ts es gs a b e = cc
 
 module _ (k : ℕ) (c : ClientState) (f : Frame) (fs : List Frame) where
-  abbrev t : AfterReply
-  t = reaction_to_reply c f
+  abbrev reply : AfterReply
+  reply = reaction_to_reply c f
 
-  abbrev first : List Entry
-  first = reacts k (scheme_held c.hint) c.call f t.reaction
+  abbrev written : List Entry
+  written = reacts k (scheme_held c.hint) c.call f reply.reaction
 
-  abbrev alone : Course
-  alone = course_after_reply (start c) t
+  abbrev from_start : Course
+  from_start = course_after_reply (start c) reply
 
   abbrev nothing : Receipt
-  nothing = record { client = t.state; sends = []; log = [] }
+  nothing = record { client = reply.state; sends = []; log = [] }
 
   abbrev after : Receipt → Receipt
-  after rest = record { client = rest.client; sends = sends_of t.reaction ++ rest.sends; log = first ++ rest.log }
+  after rest = record { client = rest.client; sends = sends_of reply.reaction ++ rest.sends; log = written ++ rest.log }
 
-  received_by : receives k t.state fs ≡ by_course k t.state fs → (o : Option ClientFault) → fault_of t.reaction ≡ o →
+  received_by : receives k reply.state fs ≡ by_course k reply.state fs → (o : Option ClientFault) → fault_of reply.reaction ≡ o →
       receives k c (f ∷ fs) ≡ by_course k c (f ∷ fs)
   received_by rest None e =
-      let a = runs_from alone fs e in
-      let o : receives k c (f ∷ fs) ≡ after (receives k t.state fs) =
-      ap (λ (o : Option ClientFault). after (cond (is_some o) nothing (receives k t.state fs))) e in
-      let g : reported_by k c (f ∷ fs) ≡ first ++ reported_by k t.state fs =
-      ap (λ (o : Option ClientFault). first ++ cond (is_some o) [] (reported_by k t.state fs)) e in
+      let a = runs_from from_start fs e in
+      let o : receives k c (f ∷ fs) ≡ after (receives k reply.state fs) =
+      ap (λ (o : Option ClientFault). after (cond (is_some o) nothing (receives k reply.state fs))) e in
+      let g : reported_by k c (f ∷ fs) ≡ written ++ reported_by k reply.state fs =
+      ap (λ (o : Option ClientFault). written ++ cond (is_some o) [] (reported_by k reply.state fs)) e in
       o ∙ ap after rest ∙ same_receipt _ _ _ _ _ _ (sym a.state) (sym a.sends) (sym g)
   received_by rest (Some x) e =
-      let a : runs alone fs ≡ alone = fault_stays alone fs x e in
+      let a : runs from_start fs ≡ from_start = fault_stays from_start fs x e in
       let o : receives k c (f ∷ fs) ≡ after nothing =
-      ap (λ (o : Option ClientFault). after (cond (is_some o) nothing (receives k t.state fs))) e in
-      let g : reported_by k c (f ∷ fs) ≡ first ++ [] =
-      ap (λ (o : Option ClientFault). first ++ cond (is_some o) [] (reported_by k t.state fs)) e in
-      o ∙ same_receipt _ _ _ _ _ _ (sym (ap (λ (y : Course). y.state) a)) (append-nil (sends_of t.reaction) ∙ sym (ap (λ (y : Course). y.sends) a)) (sym g)
+      ap (λ (o : Option ClientFault). after (cond (is_some o) nothing (receives k reply.state fs))) e in
+      let g : reported_by k c (f ∷ fs) ≡ written ++ [] =
+      ap (λ (o : Option ClientFault). written ++ cond (is_some o) [] (reported_by k reply.state fs)) e in
+      o ∙ same_receipt _ _ _ _ _ _ (sym (ap (λ (y : Course). y.state) a)) (append-nil (sends_of reply.reaction) ∙ sym (ap (λ (y : Course). y.sends) a)) (sym g)
 
 received : (k : ℕ) (c : ClientState) (fs : List Frame) → receives k c fs ≡ by_course k c fs
 received k c [] = refl

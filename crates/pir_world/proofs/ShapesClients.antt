@@ -174,7 +174,7 @@ stale_asked (Some k) dropped c asked version count =
     either (not (version == asked) && is_current k version count) _ _ (inl refl) (inl refl)
 
 stale_sends : (k : Call) (c : ClientState) (version count : ℕ) → Sends (takes_stale k c version count)
-stale_sends (call.Sync s v p) c version count = stale_asked c.known _ c v version count
+stale_sends (call.Sync s v p) c version count = stale_asked c.known (record c { parts = [] }) c v version count
 stale_sends (call.Ask i v n) c version count = stale_asked c.known c c v version count
 stale_sends k c version count = inl refl
 

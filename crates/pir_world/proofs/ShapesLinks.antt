@@ -36,7 +36,7 @@ use Rattle.pir_world.specs.Runs.{
   called_at,
   served_at,
 }
-use Rattle.pir_world.specs.Shapes.{shown, HaveEqualShapes}
+use Rattle.pir_world.specs.Shapes.{sights, HaveEqualShapes}
 use Rattle.pir_world.proofs.Receipts.{reported_by, reported_by_course}
 use Rattle.pir_world.proofs.Links.{link_called, link_served, link_reported, turn_of}
 use Rattle.pir_world.proofs.Later.{get_same, get_other}
@@ -94,12 +94,12 @@ state_itself s = record { history = refl; links = λ k. both_itself (slice_get s
 called_equal : (k : ℕ) (v w : ClientCall) (f g : Frame) → IsFrameLike f g → HaveEqualShapes (Called k v None ∷ Sent k f ∷ []) (Called k w None ∷ Sent k g ∷ [])
 called_equal k v w f g e = λ j. rw (same_shape f g e) refl
 
-reports_shown : (j k : ℕ) (z : Scheme) (q : Call) (f : Frame) (e : Event) → flat_map (shown j) (reports k z q f e ∷ []) ≡ []
+reports_shown : (j k : ℕ) (z : Scheme) (q : Call) (f : Frame) (e : Event) → flat_map (sights j) (reports k z q f e ∷ []) ≡ []
 reports_shown j k z (Ask i v n) f e = refl
 reports_shown j k z q f e = refl
 
 reacts_shown : (j k : ℕ) (z : Scheme) (q : Call) (f : Frame) (r : Reaction) →
-    flat_map (shown j) (reacts k z q f r) ≡ flat_map (shown j) (map (λ (y : Frame). Sent k y) (sends_of r))
+    flat_map (sights j) (reacts k z q f r) ≡ flat_map (sights j) (map (λ (y : Frame). Sent k y) (sends_of r))
 reacts_shown j k z q f (Asks s v p) = refl
 reacts_shown j k z q f (Reports e) = reports_shown j k z q f e
 reacts_shown j k z q f (Fails fault) = refl
@@ -107,7 +107,7 @@ reacts_shown j k z q f (Fails fault) = refl
 reacts_equal : (k : ℕ) (y z : Scheme) (q q2 : Call) (f g : Frame) (r r2 : Reaction) → sends_of r ≡ sends_of r2 →
     HaveEqualShapes (reacts k y q f r) (reacts k z q2 g r2)
 reacts_equal k y z q q2 f g r r2 e j =
-    reacts_shown j k y q f r ∙ ap (λ (fs : List Frame). flat_map (shown j) (map (λ (u : Frame). Sent k u) fs)) e ∙ sym (reacts_shown j k z q2 g r2)
+    reacts_shown j k y q f r ∙ ap (λ (fs : List Frame). flat_map (sights j) (map (λ (u : Frame). Sent k u) fs)) e ∙ sym (reacts_shown j k z q2 g r2)
 
 abbrev none_or : Bool → List Entry
 none_or b = cond b [] []

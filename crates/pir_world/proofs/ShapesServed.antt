@@ -12,17 +12,17 @@ use Rattle.server_core.specs.Serving.{Setting, Outcome, outcome_of_frame, takes_
 use Rattle.server_core.specs.Laws.{AreAlikeReplies}
 use Rattle.server_core.proofs.Alike.{replies_hold_no_index}
 use Rattle.pir_world.specs.Runs.{Turn, Entry, Served, served_or, turn_more, turns}
-use Rattle.pir_world.specs.Shapes.{shown, HaveEqualShapes, HadMemory}
+use Rattle.pir_world.specs.Shapes.{sights, HaveEqualShapes, HadMemory}
 use Rattle.pir_world.proofs.ShapesFrames.{IsFrameLike, same_frame, same_shape, AreFramesLike, like_append}
 
 -- ---- logs
 
 pub equal_append : (a b c d : List Entry) → HaveEqualShapes a b → HaveEqualShapes c d → HaveEqualShapes (a ++ c) (b ++ d)
 equal_append a b c d p q k =
-    flat_map-append (shown k) a c
-    ∙ ap (λ z. z ++ flat_map (shown k) c) (p k)
-    ∙ ap (λ z. flat_map (shown k) b ++ z) (q k)
-    ∙ sym (flat_map-append (shown k) b d)
+    flat_map-append (sights k) a c
+    ∙ ap (λ z. z ++ flat_map (sights k) c) (p k)
+    ∙ ap (λ z. flat_map (sights k) b ++ z) (q k)
+    ∙ sym (flat_map-append (sights k) b d)
 
 pub all_first : {X : Type 0} (P : X → Type 0) (xs ys : List X) → AllByRecursion P (xs ++ ys) → AllByRecursion P xs
 all_first P [] ys a = tt

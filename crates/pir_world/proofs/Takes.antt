@@ -34,7 +34,7 @@ use Rattle.frame_codec.specs.Refusals.{refused, code_of}
 use Rattle.version_store.specs.Histories.{History}
 use Rattle.server_core.specs.declared.standing.Standing.{Standing}
 use Rattle.server_core.specs.declared.standing.Standing.TheVariants.{Reader}
-use Rattle.server_core.specs.Serving.{Setting, hint_words, named_hint_rows, part_words}
+use Rattle.server_core.specs.Serving.{Setting, hint_words, named_hint_rows, hint_part}
 use Rattle.client_core.specs.declared.state.ClientState.{ClientState}
 use Rattle.client_core.specs.declared.state.ServerInfo.{ServerInfo}
 use Rattle.client_core.specs.declared.state.Hint.{Hint}
@@ -133,14 +133,14 @@ hint_long x s records ok =
     let all : 0 < rows_of_hint s l x.plan.dimension * x.plan.dimension = mul-pos (some_rows s l x.plan.dimension (shape_of_layout l ok.layout) low) low in
     omega (arith, length-hint x s records, all)
 
-part_length : (x : Setting) (s : Scheme) (records : List (List ℕ)) (p : ℕ) → length (part_words x s records p) ≡ part_len (length (hint_words x s records)) p
-unfolding part_words
+part_length : (x : Setting) (s : Scheme) (records : List (List ℕ)) (p : ℕ) → length (hint_part x s records p) ≡ part_len (length (hint_words x s records)) p
+unfolding hint_part
 part_length x s records p = length-take 65536 (drop (65536 * p) (hint_words x s records))
     ∙ ap (λ (n : ℕ). min 65536 n) (length-drop (65536 * p) (hint_words x s records))
 
 parts_more : (x : Setting) (s : Scheme) (records : List (List ℕ)) (p : ℕ) →
-    take (65536 * p) (hint_words x s records) ++ part_words x s records p ≡ take (65536 * (p + 1)) (hint_words x s records)
-unfolding part_words
+    take (65536 * p) (hint_words x s records) ++ hint_part x s records p ≡ take (65536 * (p + 1)) (hint_words x s records)
+unfolding hint_part
 parts_more x s records p = let e : 65536 * (p + 1) ≡ 65536 * p + 65536 = omega arith in rw e (sym (take-add (65536 * p) 65536 (hint_words x s records)))
 
 rows_are : (x : Setting) (records : List (List ℕ)) (numbers : List ℕ) →
@@ -522,7 +522,7 @@ module _ (law : RetrievalGivesTheRecord) (x : Setting) (seeds : List (List ℕ))
           (dimension_is ∙ sym z.cols)
           (all ∙ hint_list_is x s r.records)
 
-      part_good : is_part s total v p (scheme_byte s) v p (part_words x s r.records p) ≡ true
+      part_good : is_part s total v p (scheme_byte s) v p (hint_part x s r.records p) ≡ true
       part_good =
           and_from (scheme_byte s == scheme_byte s) _ (eq-eqb (scheme_byte s) (scheme_byte s) refl)
           (and_from (v == v) _ (eq-eqb v v refl) (and_from (p == p) _ (eq-eqb p p refl)
@@ -530,7 +530,7 @@ module _ (law : RetrievalGivesTheRecord) (x : Setting) (seeds : List (List ℕ))
 
       more : (words : List ℕ) → words ≡ take (65536 * (p + 1)) (hint_words x s r.records)
           → ((length words == total) ≡ true) ⊎ ((length words == total) ≡ false)
-          → IsTaken x seeds k h st c (Sync s v p) (frame.HintPart (scheme_byte s) v p (part_words x s r.records p)) (more_parts s y c v p words)
+          → IsTaken x seeds k h st c (Sync s v p) (frame.HintPart (scheme_byte s) v p (hint_part x s r.records p)) (more_parts s y c v p words)
       more words all (inl t) =
           let size : length words ≡ length (hint_words x s r.records) = eqb-true _ _ t ∙ total_is in
           let same : length (take (65536 * (p + 1)) (hint_words x s r.records)) ≡ length (hint_words x s r.records) = sym (ap length all) ∙ size in
@@ -568,21 +568,21 @@ module _ (law : RetrievalGivesTheRecord) (x : Setting) (seeds : List (List ℕ))
                 let a : s2 ≡ s = cc in
                 let b : v2 ≡ v = cc in
                 let d : q2 ≡ p + 1 = cc in
-                (a, b, d, (part_words x s r.records p, rw (a, b) refl));
+                (a, b, d, (hint_part x s r.records p, rw (a, b) refl));
             next = λ f first e2. sym (one_alike _ f e2);
           })
 
-      part_step : takes_part (Sync s v p) c (scheme_byte s) v p (part_words x s r.records p) ≡ more_parts s y c v p (c.parts ++ part_words x s r.records p)
+      part_step : takes_part (Sync s v p) c (scheme_byte s) v p (hint_part x s r.records p) ≡ more_parts s y c v p (c.parts ++ hint_part x s r.records p)
       part_step =
-          ap (λ (o : Option ServerInfo). takes_asked_part o s c v p (scheme_byte s) v p (part_words x s r.records p)) at
-          ∙ ap (λ (b : Bool). cond b (more_parts s y c v p (c.parts ++ part_words x s r.records p)) (faulty c BadReply)) part_good
+          ap (λ (o : Option ServerInfo). takes_asked_part o s c v p (scheme_byte s) v p (hint_part x s r.records p)) at
+          ∙ ap (λ (b : Bool). cond b (more_parts s y c v p (c.parts ++ hint_part x s r.records p)) (faulty c BadReply)) part_good
 
-      part_came : IsTaken x seeds k h st c (Sync s v p) (frame.HintPart (scheme_byte s) v p (part_words x s r.records p))
-          (takes_part (Sync s v p) c (scheme_byte s) v p (part_words x s r.records p))
+      part_came : IsTaken x seeds k h st c (Sync s v p) (frame.HintPart (scheme_byte s) v p (hint_part x s r.records p))
+          (takes_part (Sync s v p) c (scheme_byte s) v p (hint_part x s r.records p))
       part_came =
-          subst (λ (t : AfterReply). IsTaken x seeds k h st c (Sync s v p) (frame.HintPart (scheme_byte s) v p (part_words x s r.records p)) t) (sym part_step)
-          (more (c.parts ++ part_words x s r.records p) (ap (λ (w : List ℕ). w ++ part_words x s r.records p) r.parts_are ∙ parts_more x s r.records p)
-          (cases_Bool (length (c.parts ++ part_words x s r.records p) == total)))
+          subst (λ (t : AfterReply). IsTaken x seeds k h st c (Sync s v p) (frame.HintPart (scheme_byte s) v p (hint_part x s r.records p)) t) (sym part_step)
+          (more (c.parts ++ hint_part x s r.records p) (ap (λ (w : List ℕ). w ++ hint_part x s r.records p) r.parts_are ∙ parts_more x s r.records p)
+          (cases_Bool (length (c.parts ++ hint_part x s r.records p) == total)))
 
     module _ (j v n : ℕ) (records : List (List ℕ)) (p : HasVersion h v records) (lt : j < y.count) (e : y.version ≡ v) (hint : Hint)
         (held : c.hint ≡ Some hint) (ve : hint.version ≡ v) where
@@ -676,8 +676,8 @@ module _ (law : RetrievalGivesTheRecord) (x : Setting) (seeds : List (List ℕ))
   reply_taken (Sync s v m) r e a (inr (inr p)) =
       let known = known_some x h st c.known a.k i.known a.known_is in
       let same : p.0 ≡ a.records = one_version h v p.0 a.records p.1 a.version_is in
-      rw (p.2, same) (by_call (λ (q : Call). takes_part q c (scheme_byte s) v m (part_words x s a.records m)) (Sync s v m)
-      (frame.HintPart (scheme_byte s) v m (part_words x s a.records m)) e (part_came a.k a.known_is known s v m a a.asked))
+      rw (p.2, same) (by_call (λ (q : Call). takes_part q c (scheme_byte s) v m (hint_part x s a.records m)) (Sync s v m)
+      (frame.HintPart (scheme_byte s) v m (hint_part x s a.records m)) e (part_came a.k a.known_is known s v m a a.asked))
   reply_taken (Delta since) r e a (inl p) =
       rw p (by_call (λ (q : Call). takes_refused q c (code_of refusal.Memory)) (Delta since) (refused refusal.Memory) e
       (refused_delta since (code_of refusal.Memory)))

@@ -19,7 +19,7 @@ use Rattle.version_store.specs.Histories.{AreGrowing, History}
 use Rattle.version_store.specs.OldRecords.{slots_with_blanks}
 use Rattle.server_core.specs.declared.standing.Standing.{Standing}
 use Rattle.server_core.specs.declared.standing.Standing.TheVariants.{Reader}
-use Rattle.server_core.specs.Serving.{Setting, hint_words, named_hint_rows, part_words, is_closed}
+use Rattle.server_core.specs.Serving.{Setting, hint_words, named_hint_rows, hint_part, is_closed}
 use Rattle.client_core.specs.declared.state.ClientState.{ClientState}
 use Rattle.client_core.specs.declared.state.ServerInfo.{ServerInfo}
 use Rattle.client_core.specs.declared.state.Hint.{Hint}
@@ -144,7 +144,7 @@ abbrev pub IsReply : Setting → History → Standing → List ℕ → Scheme �
 IsReply x h st seed s Hello r =
     (st ≡ Reader) × ((v : ℕ) × (records : List (List ℕ)) × HasVersion h v records × (r ≡ welcome_frame x v records))
 IsReply x h st seed s (Sync scheme v p) r =
-    IsReplyOf x h v r (λ records. frame.HintPart (scheme_byte scheme) v p (part_words x scheme records p))
+    IsReplyOf x h v r (λ records. frame.HintPart (scheme_byte scheme) v p (hint_part x scheme records p))
 IsReply x h st seed s (Delta since) r =
     (r ≡ refused refusal.Memory)
     ⊎ ((now : ℕ) × (records : List (List ℕ)) × HasVersion h now records × (r ≡ frame.NoDelta now (length records)))

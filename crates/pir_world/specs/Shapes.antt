@@ -21,22 +21,22 @@ use Rattle.pir_world.specs.Headlines.{IsOpening}
 -- what may be seen of a client: the shape of a frame that it sends; the shape of a reply to it, at
 -- the time at which the server makes that; and whether a call of it is refused, and why
 pub data Sight : Type 0 where
-  Sends : (shape : FrameShape) → Sight
-  Receives : (shape : FrameShape) → Sight
-  Calls : (refusal : Option CallFault) → Sight
+  FrameSent : (shape : FrameShape) → Sight
+  ReplyMade : (shape : FrameShape) → Sight
+  CallMade : (refusal : Option CallFault) → Sight
 
 -- what an entry shows of client k: of a frame or a reply its kind and length alone, of a call
 -- whether it is refused, and nothing of an event
-abbrev pub shown : ℕ → Entry → List Sight
-shown k (Sent j f) = cond (j == k) (Sends (shape_of_frame f) ∷ []) []
-shown k (Served j f now (Some reply)) = cond (j == k) (Receives (shape_of_frame reply) ∷ []) []
-shown k (Called j want why) = cond (j == k) (Calls why ∷ []) []
-shown k _ = []
+abbrev pub sights : ℕ → Entry → List Sight
+sights k (Sent j f) = cond (j == k) (FrameSent (shape_of_frame f) ∷ []) []
+sights k (Served j f now (Some reply)) = cond (j == k) (ReplyMade (shape_of_frame reply) ∷ []) []
+sights k (Called j want why) = cond (j == k) (CallMade why ∷ []) []
+sights k _ = []
 
 -- two logs show the same of each client, in the same order; how what they show of one client lies
 -- between what they show of another is not compared
 abbrev pub HaveEqualShapes : List Entry → List Entry → Type 0
-HaveEqualShapes log other = (k : ℕ) → flat_map (shown k) log ≡ flat_map (shown k) other
+HaveEqualShapes log other = (k : ℕ) → flat_map (sights k) log ≡ flat_map (sights k) other
 
 -- ---- steps that differ in indices alone
 

@@ -3,7 +3,7 @@ use Rattle.std.proofs.Common.{◌≡◌, ℕ, zero, suc, ◌-◌, ◌*◌, ◌�
 use Rattle.std.proofs.lemmas.List.{length-take}
 use Rattle.pir_schemes.specs.declared.scheme.Scheme.{Scheme}
 use Rattle.pir_schemes.specs.Parts.{part_of}
-use Rattle.server_core.specs.Serving.{Setting, hint_words, has_part, part_words}
+use Rattle.server_core.specs.Serving.{Setting, hint_words, has_part, hint_part}
 
 more_than : (a b : ℕ) → (a ≤ b → ⊥) → b < a
 more_than a b h = by_cases (a - b) refl
@@ -27,8 +27,8 @@ part_some x k records part (Some w) e =
     (more_than (length (hint_words x k records)) (65536 * part) (λ le. let bad : true ≡ false = e.1 le in absurd cc))
 
 pub part_is : (x : Setting) (k : Scheme) (records : List (List ℕ)) (part : ℕ) (r : Option (Bor (List ℕ))) →
-    IfSome r (λ words. words.now ≡ part_of (hint_words x k records) part) → IfSome r (λ words. words.now ≡ part_words x k records part)
-unfolding part_words
+    IfSome r (λ words. words.now ≡ part_of (hint_words x k records) part) → IfSome r (λ words. words.now ≡ hint_part x k records part)
+unfolding hint_part
 part_is x k records part None e = tt
 part_is x k records part (Some w) e = e
 

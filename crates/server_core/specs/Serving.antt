@@ -61,8 +61,8 @@ unfoldable pub has_part : Setting → Scheme → List (List ℕ) → ℕ → Boo
 has_part x scheme records part = is_part_of (length (hint_words x scheme records)) part
 
 -- a part of a hint of some records
-unfoldable pub part_words : Setting → Scheme → List (List ℕ) → ℕ → List ℕ
-part_words x scheme records part = part_of (hint_words x scheme records) part
+unfoldable pub hint_part : Setting → Scheme → List (List ℕ) → ℕ → List ℕ
+hint_part x scheme records part = part_of (hint_words x scheme records) part
 
 -- a row of the SimplePIR hint of some records, with its number
 abbrev pub hint_row : Setting → List (List ℕ) → ℕ → Row
@@ -140,7 +140,7 @@ hint_asked x h st None version part = refuses refusal.BadScheme st h
 hint_asked x h st (Some scheme) version part =
     if version == current_version h then (
     if has_part x scheme h.current part
-    then replies_with (HintPart (scheme_byte scheme) (current_version h) part (part_words x scheme h.current part)) st h
+    then replies_with (HintPart (scheme_byte scheme) (current_version h) part (hint_part x scheme h.current part)) st h
     else refuses refusal.BadPart st h)
     else stale st h
 

@@ -12,7 +12,7 @@ ghost use Rattle.pir_schemes.specs.Plans.{profile_of};
 ghost use Rattle.pir_schemes.specs.Retrievals.{answer_words};
 ghost use Rattle.digit_pack.specs.Layout.{digit_rows};
 ghost use Rattle.version_store.specs.Editions.{version_shape};
-ghost use Rattle.server_core.specs.Serving.{setting_of, has_part, most_changes, part_words};
+ghost use Rattle.server_core.specs.Serving.{setting_of, has_part, hint_part, most_changes};
 ghost use Rattle.server_core.specs.Serving.{named_hint_rows, words_asked, words_answered, hint_row};
 ghost use Rattle.server_core.specs.Serving.{HasRoom, IsRowBuffers};
 ghost use Rattle.version_store.specs.Buffers.{scheme_answered, IsAnswerBuffers};
@@ -112,7 +112,7 @@ pub fn part_of_hint<K: Kernel>(store: &Store<K>, scheme: Scheme, part: u32) -> O
     ensures some { IfSome result (λ words.
         has_part (setting_of store.now) scheme store.now.edition.records part ≡ true) }
     ensures words { IfSome result (λ words.
-        words.now ≡ part_words (setting_of store.now) scheme store.now.edition.records part) }
+        words.now ≡ hint_part (setting_of store.now) scheme store.now.edition.records part) }
     ensures few { IfSome result (λ words. length words.now ≤ 65536) }
 {
     store.hint_words(scheme, part as usize)

@@ -16,7 +16,7 @@ returns-clause-joined g c prefix long before =
     let whole : List ℕ = prefix ++ part_answers_of l h first query in
     let count : ℕ = length c.args.made.now in
     let made : c.finish_part.new.words ≡ part_answer_of h first (part_of_query l query d) =
-    c.finish_part.ensures ∙ ap (part_answer_of h first) c.part_words.ensures.value in
+    c.finish_part.ensures ∙ ap (part_answer_of h first) c.words_of_query_part.ensures.value in
     let len : length c.finish_part.new.words ≡ count = ap length made ∙ length-part h first (part_of_query l query d) ∙ sym c.requires.room in
     let place : c.rows.result + d * length c.finish_part.new.words ≡ h.rows + d * count =
     ap (λ n. n + d * length c.finish_part.new.words) c.rows.ensures.value ∙ ap (λ n. h.rows + d * n) len in
