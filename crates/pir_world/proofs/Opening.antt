@@ -1,10 +1,11 @@
 -- A world as it begins, and so every run.
 use Rattle.std.proofs.Common.{◌≡◌, ◌==◌, Bool, true, false, cond, ℕ, zero, suc, ◌-◌, ◌<◌, List, [], ◌∷◌, length, map, Option, Some, refl, sym, ap, subst, ◌∙◌, arith}
 use Rattle.std.specs.Prelude.{slice_get, ◌||◌, ◌&&◌}
+use Rattle.std.proofs.lemmas.Bool.{and_from, le-leb, eq-eqb}
 use Rattle.std.proofs.lemmas.List.{length-map}
 use Rattle.matrix_u32.proofs.Products.{length-list_of}
 use Rattle.digit_pack.specs.Layout.{records_in, is_wide}
-use Rattle.digit_pack.proofs.Layouts.{layout_means}
+use Rattle.digit_pack.proofs.Layouts.{layout_accepted}
 use Rattle.pir_schemes.specs.Plans.{content, records_held, client_profile}
 use Rattle.pir_schemes.specs.Laws.{RetrievalGivesTheRecord}
 use Rattle.frame_codec.specs.declared.frame.Frame.{Frame}
@@ -14,7 +15,7 @@ use Rattle.version_store.specs.Histories.{current_version}
 use Rattle.pir_world.specs.Runs.{Link, opening, setting_in, fresh_link}
 use Rattle.pir_world.specs.Versions.{seed_of}
 use Rattle.pir_world.specs.Earlier.{HasEarlier}
-use Rattle.pir_world.specs.Headlines.{IsOpening, EveryRunIsRight}
+use Rattle.pir_world.specs.Headlines.{IsOpening, is_accepted, EveryRunIsRight}
 use Rattle.pir_world.specs.Invariants.{AreRecords, LinkInvariant, LogInvariant, WorldInvariant}
 use Rattle.version_store.specs.Histories.{StoreState, StandsFor, opened}
 use Rattle.version_store.specs.Openings.{held_of, plan_held}
@@ -47,9 +48,17 @@ opening_records : (h : Header) (bytes : List ℕ) → IsOpening h bytes → AreR
 opening_records h bytes o =
     let n : length (held h bytes) ≡ h.count = length-map (records_in (shape_of h) bytes) (content (plan_held h)) ∙ length-list_of h.count _ in
     record {
-      plan = rw n (record { form = o.sound.sizes.form; layout = layout_means (shape_of h) o.sound.sizes.layout; low = o.sound.sizes.low; high = o.sound.sizes.high });
+      plan = rw n (record { form = o.sound.sizes.form; layout = o.sound.sizes.layout; low = o.sound.sizes.low; high = o.sound.sizes.high });
       each = λ i lt. held_is (plan_held h) (shape_of h) bytes refl o.sound.len o.bytes (held_slots h bytes o.sound.slots) i (omega (arith, lt, n));
     }
+
+-- a snapshot that a store accepts passes each of its checks
+pub opening_accepted : (h : Header) (bytes : List ℕ) → IsOpening h bytes → is_accepted h bytes ≡ true
+opening_accepted h bytes o =
+    let s = o.sound in
+    and_from _ _ s.sizes.form (and_from _ _ (layout_accepted (shape_of h) s.sizes.layout)
+    (and_from _ _ (and_from _ _ (le-leb _ _ s.sizes.low) (le-leb _ _ s.sizes.high))
+    (and_from _ _ (le-leb _ _ s.version) (and_from _ _ (eq-eqb _ _ s.len) s.slots))))
 
 -- the profile asked for is one that the server accepts
 asked_accepted : (wide one plain : Bool) → cond wide ((client_profile wide == 130) || ((client_profile wide == 129) && plain))

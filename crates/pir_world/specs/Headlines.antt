@@ -1,7 +1,8 @@
 -- What is right of a run.
-use Rattle.std.specs.Prelude.{◌≡◌, ◌≢◌, ◌<◌, ◌⊎◌, ℕ, List, length, All, ◌^◌, Option, Some, None, slice_get}
+use Rattle.std.specs.Prelude.{◌≡◌, ◌≢◌, ◌<◌, ◌⊎◌, ◌==◌, ◌&&◌, ℕ, nat_le, Bool, true, List, length, All, ◌^◌, Option, Some, None, slice_get}
 use Rattle.std.specs.List.{AllByRecursion}
-use Rattle.digit_pack.specs.Layout.{record_at}
+use Rattle.digit_pack.specs.Layout.{record_at, is_layout}
+use Rattle.digit_pack.specs.Slots.{is_form}
 use Rattle.pir_schemes.specs.declared.scheme.Scheme.{Scheme}
 use Rattle.pir_schemes.specs.Schemes.{scheme_byte}
 use Rattle.pir_schemes.specs.Plans.{shape_at}
@@ -12,6 +13,7 @@ use Rattle.frame_codec.specs.declared.frame.Frame.TheVariants as frame
 use Rattle.frame_codec.specs.declared.refusal.Refusal.TheVariants as refusal
 use Rattle.frame_codec.specs.Refusals.{code_of, refused}
 use Rattle.snapshot_file.specs.declared.snapshot.Header.{Header}
+use Rattle.snapshot_file.specs.Snapshots.{shape_of, records_len, has_slots}
 use Rattle.version_store.specs.Openings.{IsSound}
 use Rattle.version_store.specs.Histories.{History}
 use Rattle.server_core.specs.Serving.{Setting}
@@ -100,10 +102,18 @@ pub record IsOpening (h : Header) (records : List ℕ) : Type 0 where
   pub sound : IsSound h records
   pub bytes : All (λ b. b < 2 ^ 8) records
 
+-- whether a store accepts a snapshot: there is such a form, its layout is within its limits, the
+-- dimension is 1 to 1024, the version 1 or more, there are as many bytes as its records have, and in
+-- forms of slots the bytes of each record are a slot
+abbrev pub is_accepted : Header → List ℕ → Bool
+is_accepted h records =
+    is_form h.form h.record_len && (is_layout (shape_of h) && ((nat_le 1 h.dimension && nat_le h.dimension 1024)
+    && (nat_le 1 h.version && ((length records == records_len h) && has_slots h records))))
+
 -- a run of these steps leads to this state from the opening of a snapshot, with a client for each
 -- seed; a store accepts the snapshot, and its records are bytes
 pub record IsRunFrom (h : Header) (records : List ℕ) (seeds : List (List ℕ)) (steps : List Step) (s : State) : Type 0 where
-  pub sound : IsSound h records
+  pub accepted : is_accepted h records ≡ true
   pub bytes : All (λ b. b < 2 ^ 8) records
   pub run : Run (setting_in h) (opening h records seeds) steps s
 

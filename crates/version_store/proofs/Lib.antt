@@ -28,4 +28,3 @@ pub mod OldsKept
 pub mod OldSlots
 pub mod ChangesSince
 pub mod ChangesMove
-pub mod Layouts

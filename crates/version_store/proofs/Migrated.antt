@@ -9,11 +9,9 @@ use Rattle.digit_pack.proofs.SlotLemmas.{fills_and_reads}
 use Rattle.pir_schemes.specs.declared.plan.Plan.{Plan}
 use Rattle.pir_schemes.specs.Plans.{content}
 use Rattle.snapshot_file.specs.Migrations.{IsPlainForm, in_slots}
-use Rattle.snapshot_file.specs.Widenings.{in_wide}
 use Rattle.snapshot_file.specs.Snapshots.{shape_of, has_slots}
 use Rattle.version_store.specs.Laws.{MigratedRecordsStay, WidenedRecordsStay}
 use Rattle.version_store.specs.Openings.{plan_held}
-use Rattle.version_store.proofs.Layouts.{layout_accepted}
 use Rattle.version_store.proofs.Slotted.{record_len_is}
 use Rattle.version_store.proofs.Versions.{long_records}
 
@@ -44,7 +42,7 @@ migrated_records_stay h records moved sound plain layout slots =
     let each = each_in_slot wide rs
     (λ k lt. omega (arith, record_len_is (plan_held h) (shape_of h) records refl sound.len k (omega (arith, lt, long_records (shape_of h) records)))) few in (
       record {
-        sizes = record { form = next_is_form h.form h.record_len plain; layout = layout_accepted (shape_of (in_slots h)) layout; low = sound.sizes.low; high = sound.sizes.high };
+        sizes = record { form = next_is_form h.form h.record_len plain; layout = layout; low = sound.sizes.low; high = sound.sizes.high };
         version = sound.version;
         len = slots.len;
         slots = ap (λ (b : Bool). cond b (list_all is_slot (records_in (shape_of (in_slots h)) moved)) true) (next_is_slotted h.form plain)
@@ -58,7 +56,7 @@ pub widened_records_stay : WidenedRecordsStay
 unfolding has_slots content
 widened_records_stay h seed records sound form layout = (
   record {
-    sizes = record { form = wide_is_form h.form h.record_len form sound.sizes.form; layout = layout_accepted (shape_of (in_wide h seed)) layout; low = sound.sizes.low; high = sound.sizes.high };
+    sizes = record { form = wide_is_form h.form h.record_len form sound.sizes.form; layout = layout; low = sound.sizes.low; high = sound.sizes.high };
     version = sound.version;
     len = sound.len;
     slots = ap (λ (b : Bool). cond b (list_all is_slot (records_in (shape_of h) records)) true) (wide_is_slotted h.form form) ∙ sound.slots;

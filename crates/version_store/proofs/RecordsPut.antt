@@ -11,7 +11,6 @@ use Rattle.snapshot_file.specs.declared.snapshot.Header.{Header}
 use Rattle.snapshot_file.specs.Snapshots.{shape_of, has_slots}
 use Rattle.snapshot_file.proofs.Received.{one_after}
 use Rattle.version_store.specs.Openings.{IsSound, plan_held, records_for}
-use Rattle.version_store.proofs.Layouts.{layout_means, layout_accepted}
 use Rattle.version_store.proofs.Slotted.{held_replaced, good_again, held_slots}
 
 pub all_push : (f : List ℕ → Bool) (xs : List (List ℕ)) (y : List ℕ) → list_all f xs ≡ true → f y ≡ true → list_all f (xs ++ y ∷ []) ≡ true
@@ -21,7 +20,7 @@ all_push f (x ∷ xs) y all last =
     and_from _ _ parts.0 (all_push f xs y parts.1 last)
 
 pub plan_is : (h : Header) (old : List ℕ) → IsSound h old → IsPlan (plan_held h) h.count
-plan_is h old sound = record { form = sound.sizes.form; layout = layout_means (shape_of h) sound.sizes.layout; low = sound.sizes.low; high = sound.sizes.high }
+plan_is h old sound = record { form = sound.sizes.form; layout = sound.sizes.layout; low = sound.sizes.low; high = sound.sizes.high }
 
 -- ---- one record is replaced
 
@@ -63,7 +62,7 @@ module _ (h : Header) (old bytes : List ℕ) (sound : IsSound h old) (layout : I
   pub sound_added : IsSound (one_more h) (old ++ slot (plan_held h) bytes)
   unfolding has_slots
   sound_added = record {
-    sizes = record { form = sound.sizes.form; layout = layout_accepted (shape_of (one_more h)) layout; low = sound.sizes.low; high = sound.sizes.high };
+    sizes = record { form = sound.sizes.form; layout = layout; low = sound.sizes.low; high = sound.sizes.high };
     version = sound.version;
     len = omega (arith, length-append old (slot (plan_held h) bytes), sound.len, size);
     slots = sym (all_slots (plan_held h) (records_in (shape_of (one_more h)) (old ++ slot (plan_held h) bytes)))

@@ -1,6 +1,6 @@
 -- What a store can be opened with.
 use Rattle.std.specs.Prelude.{◌≡◌, ◌≤◌, ℕ, List, [], length, true, false}
-use Rattle.digit_pack.specs.Layout.{is_layout}
+use Rattle.digit_pack.specs.Layout.{IsLayout}
 use Rattle.snapshot_file.specs.declared.snapshot.Header.{Header}
 use Rattle.std.specs.List.{flat_map}
 use Rattle.snapshot_file.specs.Snapshots.{shape_of, records_len, has_slots, hashed_bytes, snapshot_bytes, IsSnapshot}
@@ -15,7 +15,7 @@ use Rattle.version_store.specs.Histories.{StoreState}
 -- a form that there is, a layout within its limits, and a dimension of 1 to 1024
 pub record HasSizes (h : Header) : Type 0 where
   pub form : is_form h.form h.record_len ≡ true
-  pub layout : is_layout (shape_of h) ≡ true
+  pub layout : IsLayout (shape_of h)
   pub low : 1 ≤ h.dimension
   pub high : h.dimension ≤ 1024
 

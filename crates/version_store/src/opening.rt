@@ -78,7 +78,6 @@ pub(crate) fn plan_of(header: &Header) -> Plan
 }
 
 /// The sizes of a snapshot's records, if a store can be opened with it.
-#[tactic(auto, using(crate::proofs::Layouts::layout_accepted, crate::proofs::Layouts::layout_refused))]
 pub(crate) fn sizes_of(snapshot: &Snapshot) -> Result<Layout, OpenError>
     ensures sizes { IfOk result (λ l. (l ≡ shape_of (header_of snapshot.now)) × IsLayout l) }
     ensures sound { OnOk result (IsSound (header_of snapshot.now) snapshot.now.records.items) }

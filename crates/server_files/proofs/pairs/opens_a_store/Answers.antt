@@ -1,11 +1,10 @@
-use Rattle.version_store.proofs.Layouts.{layout_accepted}
 use Rattle.server_files.proofs.pairs.opens_a_store.Goals as goal
 
 pub returns : goal.returns
 returns c = record {
   sizes = record {
     form = c.requires.file.accepted.form;
-    layout = layout_accepted _ c.requires.file.accepted.layout;
+    layout = c.requires.file.accepted.layout;
     low = c.requires.file.accepted.dimension.0;
     high = c.requires.file.accepted.dimension.1;
   };

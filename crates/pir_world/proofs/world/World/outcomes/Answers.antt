@@ -1,4 +1,5 @@
 use Rattle.std.proofs.Common.{◌∙◌}
+use Rattle.pir_world.proofs.Opening.{opening_accepted}
 use Rattle.pir_world.proofs.world.World.outcomes.Goals as goal
 
 pub returns-clause-run : goal.returns-clause-run
@@ -21,7 +22,7 @@ returns-clause-right g c = rw (← c.self.view_is) (
     let s = c.self.invariant.0 in
     let r = c.self.invariant.1 in (
       s,
-      record { sound = r.opens.sound; bytes = r.opens.bytes; run = r.run },
+      record { accepted = opening_accepted w.header w.records.items r.opens; bytes = r.opens.bytes; run = r.run },
       c.as_slice.ensures.value ∙ r.outcomes_are,
       c.every_run_is_right.ensures w.header w.records.items w.seeds.items w.steps.items s r.opens r.run,
       c.answers_are_fresh.ensures.logged w.header w.records.items w.seeds.items w.steps.items s r.opens r.run,
