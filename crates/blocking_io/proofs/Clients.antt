@@ -25,7 +25,7 @@ use Rattle.client_core.specs.declared.state.Event.{Event}
 use Rattle.pir_schemes.specs.declared.scheme.Scheme.{Scheme}
 use Rattle.pir_schemes.specs.Retrievals.{hint_len}
 use Rattle.pir_schemes.specs.declared.plan.Plan.{Plan}
-use Rattle.client_core.specs.Replies.{AfterReply, faulty, reaction_to_reply, is_accepted_welcome, is_part, more_parts, reaction_to_stale, moved, changed, goes_by_parts}
+use Rattle.client_core.specs.Replies.{AfterReply, faulty, plan_given, reaction_to_reply, is_accepted_welcome, is_part, more_parts, reaction_to_stale, moved, changed, goes_by_parts}
 use Rattle.client_core.specs.Kinds.{takes_welcome, takes_part, takes_answer, takes_stale, takes_done, takes_refused, takes_asked_part, answered, takes_delta, takes_changes, takes_no_delta}
 use Rattle.client_core.specs.Feeding.{Client, Course, start, course_after_reply, course_more, runs, takes_all, sends_of, fault_of, codec_fault, failing, ends_with, Gives, Follows, BreaksOff, FeedsOpen, FeedsFailed, FeedsClient}
 use Rattle.client_core.proofs.Courses.{runs_append, fault_stays}
@@ -188,7 +188,8 @@ sound c frame.Publish = bad c client.BadReply
 sound c frame.Bye = bad c client.BadReply
 sound c (frame.Append bytes) = bad c client.BadReply
 sound c (frame.ChangesAsk since) = bad c client.BadReply
-sound c (frame.Welcome profile width record_len groups count version dimension seed) = sound_welcome c.call c _ count version
+sound c (frame.Welcome profile width record_len groups count version dimension seed) =
+    sound_welcome c.call c (plan_given profile width record_len groups dimension seed) count version
 sound c (frame.HintPart scheme version part words) = sound_part c.call c scheme version part words
 sound c (frame.Delta since now count rows) = sound_delta c.call c since now count rows
 sound c (frame.Answer scheme version words) = sound_answer c.call c scheme version words
