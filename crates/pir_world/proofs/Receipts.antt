@@ -1,5 +1,5 @@
 -- What a client makes of replies, as the course that its core takes.
-use Rattle.std.proofs.Common.{◌≡◌, ℕ, List, [], ◌∷◌, ◌++◌, true, false, cond, Option, Some, None, is_some, append_assoc, append-nil, refl, sym, ap, ◌∙◌}
+use Rattle.std.proofs.Common.{◌≡◌, ℕ, List, [], ◌∷◌, ◌++◌, cond, Option, Some, None, is_some, append_assoc, append-nil, refl, sym, ap, ◌∙◌}
 use Rattle.frame_codec.specs.declared.frame.Frame.{Frame}
 use Rattle.client_core.specs.declared.state.ClientState.{ClientState}
 use Rattle.client_core.specs.declared.state.ClientFault.{ClientFault}

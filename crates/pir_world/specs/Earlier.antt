@@ -14,7 +14,7 @@ use Rattle.version_store.specs.Histories.{History}
 use Rattle.server_core.specs.Serving.{Setting}
 use Rattle.pir_world.specs.Versions.{HasVersion, asked_words, seed_of}
 
--- P is so of each entry, with those before it
+-- P holds of each entry, with those before it
 abbrev pub AllWithEarlier : (List Entry → Entry → Type 0) → List Entry → Type 0
 AllWithEarlier P log = (before after : List Entry) (e : Entry) → log ≡ before ++ e ∷ after → P before e
 

@@ -1,5 +1,5 @@
 -- What is right of a run.
-use Rattle.std.specs.Prelude.{◌≡◌, ◌≢◌, ◌<◌, ◌⊎◌, ◌==◌, ◌&&◌, ℕ, nat_le, Bool, true, List, length, All, ◌^◌, Option, Some, None, slice_get}
+use Rattle.std.specs.Prelude.{◌≡◌, ◌≢◌, ◌<◌, ◌⊎◌, ◌==◌, ◌&&◌, ℕ, nat_le, Bool, true, List, length, All, ◌^◌, Option, Some, slice_get}
 use Rattle.std.specs.List.{AllByRecursion}
 use Rattle.digit_pack.specs.Layout.{record_at, is_layout}
 use Rattle.digit_pack.specs.Slots.{is_form}

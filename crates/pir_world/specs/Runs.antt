@@ -39,7 +39,7 @@ use Rattle.pir_world.specs.declared.steps.Outcome.TheVariants.{Edited, EditRefus
 -- ---- one direction of a link
 
 -- the frames that were sent and have not wholly arrived, in order, and how many bytes of the first
--- have
+-- one have arrived
 pub record Wire : Type 0 where
   pub frames : List Frame
   pub got : ℕ
@@ -120,7 +120,7 @@ pub record Turn : Type 0 where
   pub replies : List Frame
   pub log : List Entry
 
--- a frame is served; after a closing one none is
+-- a frame is served; once the session is closed, none is
 abbrev pub turn_more : Setting → Bool → ℕ → Turn → Frame → Turn
 turn_more x short k t f =
     if is_closed t.standing then t
@@ -148,8 +148,8 @@ pub record Link : Type 0 where
   pub up : Wire
   pub down : Wire
 
--- an event ends the outstanding call: an ask's is the end of its retrieval, in the scheme of the
--- hint held
+-- what is written down of an event, which ends the outstanding call: of an ask the end of its
+-- retrieval, in the scheme of the hint held, and of any other call the event alone
 abbrev pub reports : ℕ → Scheme → Call → Frame → Event → Entry
 reports k s (call.Ask i v n) reply e = Ended k (record { index = i; scheme = s; version = v; number = n }) reply e
 reports k s _ reply e = Plain (Reported k e)
@@ -267,7 +267,8 @@ FitsStep (Edit i bytes) = All (λ b. b < 2 ^ 8) bytes
 FitsStep (Append bytes) = All (λ b. b < 2 ^ 8) bytes
 FitsStep _ = Unit {0}
 
--- one step: the server has memory for its replies, or is out of it
+-- One step: the server has memory for its replies, or is out of it. At most one frame is on its way
+-- to it from each client, so nothing is lost by saying that of a whole delivery.
 abbrev pub Steps : Setting → State → Step → State → Type 0
 Steps x s step t = FitsStep step × ((t ≡ state_after x false s step) ⊎ (t ≡ state_after x true s step))
 

@@ -40,7 +40,7 @@ HaveEqualShapes log other = (k : ℕ) → flat_map (sights k) log ≡ flat_map (
 
 -- ---- steps that differ in indices alone
 
--- one step twice, or two asks of one client
+-- two steps that are the same, or are asks of one client
 abbrev pub IsStepLike : Step → Step → Type 0
 IsStepLike (Ask k i) other = (j : ℕ) × (other ≡ Ask k j)
 IsStepLike step other = other ≡ step
@@ -93,7 +93,7 @@ IndicesChangeNoShape = (h : Header) (records : List ℕ) (seeds : List (List ℕ
 -- run of these that led to `s`. If in neither a reply is refused for lack of memory, nor an ask
 -- whose index differs for its index, then each client has frames and replies of the same kinds and
 -- lengths in both, in the same order, and the same calls of it are refused, for the same causes.
--- What the words of a query tell of its index is not said.
+-- What the words of a query give away of its index is not said.
 abbrev pub HidesIndices : Setting → State → List Step → State → Type 0
 HidesIndices x start steps s = (others : List Step) (last : State) → AreStepsLike steps others →
     AllByRecursion HadMemory s.log → AsksAreWithin x start steps others →
