@@ -25,7 +25,7 @@ use Rattle.client_core.specs.declared.state.Event.{Event}
 use Rattle.pir_schemes.specs.declared.scheme.Scheme.{Scheme}
 use Rattle.pir_schemes.specs.Retrievals.{hint_len}
 use Rattle.pir_schemes.specs.declared.plan.Plan.{Plan}
-use Rattle.client_core.specs.Replies.{AfterReply, faulty, plan_given, reaction_to_reply, is_accepted_welcome, is_part, more_parts, reaction_to_stale, moved, changed, goes_by_parts}
+use Rattle.client_core.specs.Replies.{AfterReply, faulty, plan_given, reaction_to_reply, is_accepted_welcome, is_part, reaction_to_part, reaction_to_stale, reaction_to_delta, reaction_to_changes, reaction_to_no_delta}
 use Rattle.client_core.specs.Kinds.{takes_welcome, takes_part, takes_answer, takes_stale, takes_done, takes_refused, takes_asked_part, answered, takes_delta, takes_changes, takes_no_delta}
 use Rattle.client_core.specs.Feeding.{Client, Course, start, course_after_reply, course_more, runs, takes_all, sends_of, fault_of, codec_fault, failing, ends_with, Gives, Follows, BreaksOff, FeedsOpen, FeedsFailed, FeedsClient}
 use Rattle.client_core.proofs.Courses.{runs_append, fault_stays}
@@ -58,7 +58,7 @@ sound_asked : (known : Option ServerInfo) (s : Scheme) (c : ClientState) (asked 
     IsSound c (takes_asked_part known s c asked next scheme version part words)
 sound_asked None s c asked next scheme version part words = bad c client.BadReply
 sound_asked (Some k) s c asked next scheme version part words =
-    either c (is_part s (hint_len s (shape_known k) k.plan.dimension) asked next scheme version part words) (more_parts s k c asked next (c.parts ++ words))
+    either c (is_part s (hint_len s (shape_known k) k.plan.dimension) asked next scheme version part words) (reaction_to_part s k c asked next (c.parts ++ words))
     (faulty c client.BadReply)
     (either c _ _ _ (λ _. (refl, refl, refl)) (λ _. (refl, refl, refl))) (bad c client.BadReply)
 
@@ -107,7 +107,7 @@ sound_stale Append c version count = bad c client.BadReply
 sound_stale Publish c version count = bad c client.BadReply
 
 sound_moved : (known : Option ServerInfo) (hint : Option Hint) (c : ClientState) (asked since now count : ℕ) (rows : RowList) →
-    IsSound c (moved known hint c asked since now count rows)
+    IsSound c (reaction_to_delta known hint c asked since now count rows)
 sound_moved None hint c asked since now count rows = bad c client.BadReply
 sound_moved (Some k) None c asked since now count rows = bad c client.BadReply
 sound_moved (Some k) (Some h) c asked since now count rows = either c _ _ (faulty c client.BadReply) (λ _. (refl, refl, refl)) (bad c client.BadReply)
@@ -124,7 +124,7 @@ sound_delta Append c since now count rows = bad c client.BadReply
 sound_delta Publish c since now count rows = bad c client.BadReply
 
 sound_changed : (known : Option ServerInfo) (hint : Option Hint) (c : ClientState) (asked since now count : ℕ) (entries : List ℕ) →
-    IsSound c (changed known hint c asked since now count entries)
+    IsSound c (reaction_to_changes known hint c asked since now count entries)
 sound_changed None hint c asked since now count entries = bad c client.BadReply
 sound_changed (Some k) None c asked since now count entries = bad c client.BadReply
 sound_changed (Some k) (Some h) c asked since now count entries = either c _ _ (faulty c client.BadReply) (λ _. (refl, refl, refl)) (bad c client.BadReply)
@@ -140,7 +140,7 @@ sound_changes Edit c since now count entries = bad c client.BadReply
 sound_changes Append c since now count entries = bad c client.BadReply
 sound_changes Publish c since now count entries = bad c client.BadReply
 
-sound_by_parts : (known : Option ServerInfo) (c : ClientState) (version count : ℕ) → IsSound c (goes_by_parts known c version count)
+sound_by_parts : (known : Option ServerInfo) (c : ClientState) (version count : ℕ) → IsSound c (reaction_to_no_delta known c version count)
 sound_by_parts None c version count = bad c client.BadReply
 sound_by_parts (Some k) c version count = either c _ _ (faulty c client.BadReply) (λ _. (refl, refl, refl)) (bad c client.BadReply)
 

@@ -5,7 +5,7 @@ use Rattle.std.specs.List.{flat_map}
 use Rattle.std.specs.declared.alloc.AllocError.{AllocError}
 use Rattle.std.proofs.lemmas.Bool.{eqb-true}
 use Rattle.std.proofs.lemmas.List.{length-append, length-take-le, take-append-drop}
-use Rattle.connection_io.specs.Calls.{Call, Sends}
+use Rattle.connection_io.specs.Calls.{IoCall, Sends}
 use Rattle.connection_io.proofs.Parts.{sends_both, sends_faulty}
 use Rattle.frame_codec.specs.Frames.{encoding}
 use Rattle.version_store.specs.Histories.{StoreState, History, StandsFor}
@@ -13,7 +13,7 @@ use Rattle.server_core.specs.Cores.{Core, session_of, is_open, FeedsCoreFirst}
 use Rattle.server_core.specs.declared.server.FeedError.{FeedError}
 use Rattle.server_core.specs.declared.server.FeedError.TheVariants as feed_error
 use Rattle.server_core.specs.Serving.{Setting, setting_of, is_closed}
-use Rattle.server_core.specs.Sessions.{Session, Fed, FedFirst}
+use Rattle.server_core.specs.Sessions.{Session, FeedsStore, FeedsStoreFirst}
 use Rattle.server_core.proofs.Firsts.{firsts_are_pieces, stops_are_pieces}
 use Rattle.blocking_io.specs.declared.serving.ServeFault.{ServeFault}
 use Rattle.blocking_io.specs.declared.serving.ServeFault.TheVariants as fault
@@ -25,7 +25,7 @@ use Rattle.blocking_io.proofs.Streams.{cut_after}
 -- ---- one frame
 
 pub first_fed : (x : Setting) (h : History) (old : Session) (piece : List ℕ) (count : ℕ) (store : StoreState) (new : Session) (before after : List ℕ) →
-    before ≡ [] → FedFirst x h old piece (Ok count) store new before after → Fed x h old (take count piece) (Ok tt) store new [] after
+    before ≡ [] → FeedsStoreFirst x h old piece (Ok count) store new before after → FeedsStore x h old (take count piece) (Ok tt) store new [] after
 first_fed x h old piece count store new before after none f = record {
   history = f.history;
   replies = f.replies;
@@ -37,7 +37,7 @@ first_fed x h old piece count store new before after none f = record {
 }
 
 first_stopped : (x : Setting) (h : History) (old : Session) (piece : List ℕ) (e : AllocError) (store : StoreState) (new : Session) (before after : List ℕ) →
-    before ≡ [] → FedFirst x h old piece (Err e) store new before after → FedPart x h old piece (Err e) store new after
+    before ≡ [] → FeedsStoreFirst x h old piece (Err e) store new before after → FedPart x h old piece (Err e) store new after
 first_stopped x h old piece e store new before after none f =
     let p = stops_are_pieces x h old piece e f.history new f.replies f.course in
     record {
@@ -86,7 +86,7 @@ first_short x h old piece answer e store new before after is none f =
 -- so many bytes were served, and these written: none yet, or as one piece
 abbrev pub Reached : Setting → History → Session → ℕ → Core → List ℕ → List ℕ → Core → Type 0
 Reached x h old id first part bytes core = ((part ≡ []) × (bytes ≡ []) × (core ≡ first))
-    ⊎ ((s : Session) × (session_of core.sessions id ≡ Some s) × Fed x h old part (Ok tt) core.store s [] bytes)
+    ⊎ ((s : Session) × (session_of core.sessions id ≡ Some s) × FeedsStore x h old part (Ok tt) core.store s [] bytes)
 
 -- the same for each history and the session of this number
 abbrev pub ReachedThere : ℕ → Core → List ℕ → List ℕ → Core → Type 0
@@ -137,7 +137,7 @@ module _ (id : ℕ) (first core next : Core) (part bytes rest more : List ℕ) (
       after_none fault.Memory t = t
       after_none fault.TurnsUsedUp t = absurd t
 
-      after_some : (e : ServeFault) (s : Session) (there : session_of core.sessions id ≡ Some s) (f : Fed (setting_of first.store) h old part (Ok tt) core.store s [] bytes) →
+      after_some : (e : ServeFault) (s : Session) (there : session_of core.sessions id ≡ Some s) (f : FeedsStore (setting_of first.store) h old part (Ok tt) core.store s [] bytes) →
           ServesFirst (setting_of core.store) f.history s rest (Err e) next.store (session_of next.sessions id) more →
           ServesStreamPiece (setting_of first.store) h old (part ++ rest) (Err e) next.store (session_of next.sessions id) (bytes ++ more)
       after_some fault.IdInUse s there f t = absurd t
@@ -191,7 +191,7 @@ reached_end id first core part rest bytes piece reached whole some all h stands 
     )
 
 -- what went out before, and then this
-pub writes_on : {C : Type 0} (does : C → Call → C → Type 0) (e : ServeFault) (a m b : C) (bytes more : List ℕ) → Sends does a bytes m →
+pub writes_on : {C : Type 0} (does : C → IoCall → C → Type 0) (e : ServeFault) (a m b : C) (bytes more : List ℕ) → Sends does a bytes m →
     WritesReplies {T = ℕ} does (Err e) m more b → WritesReplies {T = Unit {0}} does (Err e) a (bytes ++ more) b
 writes_on does fault.IdInUse a m b bytes more s w = sends_both does a m b bytes more s w
 writes_on does fault.Read a m b bytes more s w = sends_both does a m b bytes more s w

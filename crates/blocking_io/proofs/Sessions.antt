@@ -17,7 +17,7 @@ use Rattle.server_core.specs.Cores.{is_open}
 use Rattle.server_core.specs.declared.standing.Standing.{Standing}
 use Rattle.server_core.specs.declared.standing.Standing.TheVariants as standing
 use Rattle.server_core.specs.Serving.{is_wide_setting, Setting, setting_of, ServesAll, is_closed}
-use Rattle.server_core.specs.Sessions.{Session, new_session, AfterReading, EndsPiece, IsStop, ServesPiece, ClosesForMemory, FeedsSession, Fed}
+use Rattle.server_core.specs.Sessions.{Session, new_session, AfterReading, EndsPiece, IsStop, ServesPiece, ClosesForMemory, FeedsSession, FeedsStore}
 use Rattle.blocking_io.specs.declared.serving.Ending.{Ending}
 use Rattle.blocking_io.specs.declared.serving.ServeFault.{ServeFault}
 use Rattle.blocking_io.specs.declared.serving.ServeFault.TheVariants as fault
@@ -160,11 +160,11 @@ then_feeds x h old read piece h1 h2 s1 s2 rs more (Err e) live a open_ b =
 
 -- a stream that left the session open, and another piece of it
 pub fed_both : (x : Setting) (h : History) (old : Session) (read piece out bytes : List ℕ) (answer : Result (Unit {0}) AllocError) (store1 store2 : StoreState)
-    (s1 s2 : Session) → is_closed old.standing ≡ false → (a : Fed x h old read (Ok tt) store1 s1 [] out) → is_closed s1.standing ≡ false
-    → Fed (setting_of store1) a.history s1 piece answer store2 s2 [] bytes → Fed x h old (read ++ piece) answer store2 s2 [] (out ++ bytes)
+    (s1 s2 : Session) → is_closed old.standing ≡ false → (a : FeedsStore x h old read (Ok tt) store1 s1 [] out) → is_closed s1.standing ≡ false
+    → FeedsStore (setting_of store1) a.history s1 piece answer store2 s2 [] bytes → FeedsStore x h old (read ++ piece) answer store2 s2 [] (out ++ bytes)
 fed_both x h old read piece out bytes answer store1 store2 s1 s2 live a open_ step =
-    let b : Fed x a.history s1 piece answer store2 s2 [] bytes =
-    subst (λ (y : Setting). Fed y a.history s1 piece answer store2 s2 [] bytes) a.setting_is step in
+    let b : FeedsStore x a.history s1 piece answer store2 s2 [] bytes =
+    subst (λ (y : Setting). FeedsStore y a.history s1 piece answer store2 s2 [] bytes) a.setting_is step in
     record {
       history = b.history;
       replies = a.replies ++ b.replies;
@@ -178,7 +178,7 @@ fed_both x h old read piece out bytes answer store1 store2 s1 s2 live a open_ st
 
 -- the same where of the other piece a part was served
 pub fed_parts : (x : Setting) (h : History) (old : Session) (read piece out bytes : List ℕ) (answer : Result (Unit {0}) AllocError) (store1 store2 : StoreState)
-    (s1 s2 : Session) → is_closed old.standing ≡ false → (a : Fed x h old read (Ok tt) store1 s1 [] out) → is_closed s1.standing ≡ false
+    (s1 s2 : Session) → is_closed old.standing ≡ false → (a : FeedsStore x h old read (Ok tt) store1 s1 [] out) → is_closed s1.standing ≡ false
     → FedPart (setting_of store1) a.history s1 piece answer store2 s2 bytes → FedPart x h old (read ++ piece) answer store2 s2 (out ++ bytes)
 fed_parts x h old read piece out bytes answer store1 store2 s1 s2 live a open_ step = record {
   part = read ++ step.part;
@@ -189,11 +189,11 @@ fed_parts x h old read piece out bytes answer store1 store2 s1 s2 live a open_ s
 
 -- all of some bytes, as a part of them
 pub all_fed : (x : Setting) (h : History) (old : Session) (piece : List ℕ) (answer : Result (Unit {0}) AllocError) (store : StoreState) (new : Session)
-    (out : List ℕ) → Fed x h old piece answer store new [] out → FedPart x h old piece answer store new out
+    (out : List ℕ) → FeedsStore x h old piece answer store new [] out → FedPart x h old piece answer store new out
 all_fed x h old piece answer store new out f = record { part = piece; rest = []; whole = sym (append-nil piece); fed = f }
 
 -- nothing was read yet
-fed_none : (h : History) (store : StoreState) → StandsFor store h → Fed (setting_of store) h new_session [] (Ok tt) store new_session [] []
+fed_none : (h : History) (store : StoreState) → StandsFor store h → FeedsStore (setting_of store) h new_session [] (Ok tt) store new_session [] []
 fed_none h store stands = record {
   history = h;
   replies = [];
@@ -218,7 +218,7 @@ fed_none h store stands = record {
 
 -- the session is open, and all that was read was served
 abbrev pub IsOpenStill : Setting → History → List ℕ → List ℕ → StoreState → Option Session → Type 0
-IsOpenStill x h read out store found = (s : Session) × (found ≡ Some s) × (is_closed s.standing ≡ false) × Fed x h new_session read (Ok tt) store s [] out
+IsOpenStill x h read out store found = (s : Session) × (found ≡ Some s) × (is_closed s.standing ≡ false) × FeedsStore x h new_session read (Ok tt) store s [] out
 
 -- it was served, whether it is open or not
 abbrev pub IsThere : Setting → History → List ℕ → List ℕ → StoreState → Option Session → Type 0
@@ -285,7 +285,7 @@ found_open x h read out store found t e =
     let open_ : is_closed t.0.standing ≡ false = negated (is_closed t.0.standing) true (ap is_open (sym t.1) ∙ e) in
     let p = t.2.parts in
     let whole : read ≡ p.part = p.whole ∙ ap (λ (y : List ℕ). p.part ++ y) (t.2.all open_) ∙ append-nil p.part in
-    (t.0, t.1, open_, subst (λ (y : List ℕ). Fed x h new_session y (Ok tt) store t.0 [] out) (sym whole) p.fed)
+    (t.0, t.1, open_, subst (λ (y : List ℕ). FeedsStore x h new_session y (Ok tt) store t.0 [] out) (sym whole) p.fed)
 
 pub found_shut : (x : Setting) (h : History) (read out : List ℕ) (store : StoreState) (found : Option Session) → IsThere x h read out store found →
     is_open found ≡ false → IsStreamServed x h read out store true

@@ -1,6 +1,6 @@
 -- Turns of an engine.
 use Rattle.std.proofs.Common.{◌≡◌, ◌<◌, ◌⊎◌, ℕ, true, List, [], ◌∷◌, ◌++◌, Option, Some, None, Ok, Err, sym, subst, inl, inr}
-use Rattle.connection_io.specs.Calls.{Call, Sends}
+use Rattle.connection_io.specs.Calls.{IoCall, Sends}
 use Rattle.client_core.specs.Feeding.{Client, FeedsClient}
 use Rattle.client_core.specs.declared.state.ClientFault.{ClientFault}
 use Rattle.client_core.specs.declared.state.ClientFault.TheVariants as client_fault
@@ -13,11 +13,11 @@ use Rattle.blocking_io.specs.declared.conversing.ConverseFault.TheVariants as co
 use Rattle.connection_io.specs.Turns.{CallTurn}
 use Rattle.blocking_io.specs.Conversing.{ReceivesPiece, converse_fault as fault_of}
 use Rattle.std.proofs.lemmas.Fn.{FoldsTo-push}
-use Rattle.blocking_io.specs.ServingTurns.{TakesPiece, LeavesSession, ServesTurn, GoesOn, EndsTurns}
+use Rattle.blocking_io.specs.ServingTurns.{TakesPiece, LeavesSession, ServesTurn, KeepsServing, EndsTurns}
 use Rattle.blocking_io.specs.ConversingTurns.{TakesReply, WritesSayings, ReceivesTurn, ConversingGoesOn as WaitsOn}
 
 -- a piece at which something failed is a turn
-pub faulty_turn : {C : Type 0} (does : C → Call → C → Type 0) (id : ℕ) (old : Core) (a : C) (e : ServeFault) (turn : CallTurn) (new : Core) (b : C) →
+pub faulty_turn : {C : Type 0} (does : C → IoCall → C → Type 0) (id : ℕ) (old : Core) (a : C) (e : ServeFault) (turn : CallTurn) (new : Core) (b : C) →
     (e ≡ serve_fault.Write) ⊎ (e ≡ serve_fault.Memory)
     → TakesPiece does id old a (Err e) turn new b → ServesTurn does id old a (Err e) new b
 faulty_turn does id old a serve_fault.IdInUse turn new b (inl e) t = absurd (let no : serve_fault.IdInUse ≡ serve_fault.Write = e in cc)
@@ -29,7 +29,7 @@ faulty_turn does id old a serve_fault.Memory turn new b w t = (turn, t)
 faulty_turn does id old a serve_fault.TurnsUsedUp turn new b (inl e) t = absurd (let no : serve_fault.TurnsUsedUp ≡ serve_fault.Write = e in cc)
 faulty_turn does id old a serve_fault.TurnsUsedUp turn new b (inr e) t = absurd (let no : serve_fault.TurnsUsedUp ≡ serve_fault.Memory = e in cc)
 
-pub deaf_turn : {C : Type 0} (does : C → Call → C → Type 0) (old : Client) (a : C) (e : ConverseFault) (turn : CallTurn) (new : Client) (b : C)
+pub deaf_turn : {C : Type 0} (does : C → IoCall → C → Type 0) (old : Client) (a : C) (e : ConverseFault) (turn : CallTurn) (new : Client) (b : C)
     → TakesReply does old a (Err e) turn new b → ReceivesTurn does old a (Err e) new b
 deaf_turn does old a converse_fault.Ended turn new b t = absurd t.heard
 deaf_turn does old a converse_fault.Read turn new b t = absurd t.heard
@@ -41,20 +41,20 @@ deaf_turn does old a converse_fault.TurnsUsedUp turn new b t = (turn, t)
 deaf_turn does old a converse_fault.Failed turn new b t = (turn, t)
 
 -- one more turn
-pub goes_on_more : {C : Type 0} (does : C → Call → C → Type 0) (id : ℕ) (old : Core) (a : C) (turns : List CallTurn) (mid : Core) (b : C) (turn : CallTurn)
+pub goes_on_more : {C : Type 0} (does : C → IoCall → C → Type 0) (id : ℕ) (old : Core) (a : C) (turns : List CallTurn) (mid : Core) (b : C) (turn : CallTurn)
     (new : Core) (c : C)
-    → GoesOn does id old a turns mid b → LeavesSession does id true mid b turn new c → GoesOn does id old a (turns ++ turn ∷ []) new c
+    → KeepsServing does id old a turns mid b → LeavesSession does id true mid b turn new c → KeepsServing does id old a (turns ++ turn ∷ []) new c
 goes_on_more {C = C} does id old a turns mid b turn new c go t =
     FoldsTo-push {P = Core × C} (λ p turn q. LeavesSession does id true p.0 p.1 turn q.0 q.1) (old, a) turns (mid, b) turn (new, c) go t
 
-pub receives_more : {C : Type 0} (does : C → Call → C → Type 0) (old : Client) (a : C) (turns : List CallTurn) (mid : Client) (b : C) (turn : CallTurn)
+pub receives_more : {C : Type 0} (does : C → IoCall → C → Type 0) (old : Client) (a : C) (turns : List CallTurn) (mid : Client) (b : C) (turn : CallTurn)
     (new : Client) (c : C)
     → WaitsOn does old a turns mid b → TakesReply does mid b (Ok None) turn new c → WaitsOn does old a (turns ++ turn ∷ []) new c
 receives_more {C = C} does old a turns mid b turn new c go t =
     FoldsTo-push {P = Client × C} (λ p turn q. TakesReply does p.0 p.1 (Ok None) turn q.0 q.1) (old, a) turns (mid, b) turn (new, c) go t
 
 -- the last turn failed
-pub stops_by : {C : Type 0} (does : C → Call → C → Type 0) (id turns count : ℕ) (old : Core) (a : C) (e : ServeFault) (new : Core) (b : C) → count < turns
+pub stops_by : {C : Type 0} (does : C → IoCall → C → Type 0) (id turns count : ℕ) (old : Core) (a : C) (e : ServeFault) (new : Core) (b : C) → count < turns
     → ServesTurn does id old a (Err e) new b → EndsTurns does id turns count old a (Err e) new b
 stops_by does id turns count old a serve_fault.IdInUse new b lt t = (lt, t)
 stops_by does id turns count old a serve_fault.Read new b lt t = (lt, t)
@@ -63,7 +63,7 @@ stops_by does id turns count old a serve_fault.Memory new b lt t = (lt, t)
 stops_by does id turns count old a serve_fault.TurnsUsedUp new b lt t = absurd t
 
 -- what the client says to a piece went out, and then its fault is answered
-pub fault_answered : {C : Type 0} (does : C → Call → C → Type 0) (old : Client) (a : C) (piece said bytes : List ℕ) (events : List Event)
+pub fault_answered : {C : Type 0} (does : C → IoCall → C → Type 0) (old : Client) (a : C) (piece said bytes : List ℕ) (events : List Event)
     (found : Option ClientFault) (f : ClientFault) (e : ConverseFault) (new : Client) (b : C)
     → e ≡ fault_of f → said ≡ bytes → Sends does a said b → FeedsClient old piece bytes events found new → events ≡ [] → found ≡ Some f
     → (x : List ℕ) × WritesSayings does (Err e) a x b × ReceivesPiece old piece (Err e) new x

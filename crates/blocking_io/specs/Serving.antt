@@ -5,7 +5,7 @@ use Rattle.std.specs.declared.alloc.AllocError.{AllocError}
 use Rattle.version_store.specs.Histories.{StoreState, History, StandsFor}
 use Rattle.server_core.specs.Cores.{Core, session_of}
 use Rattle.server_core.specs.Serving.{Setting, setting_of, is_closed}
-use Rattle.server_core.specs.Sessions.{Session, new_session, Fed}
+use Rattle.server_core.specs.Sessions.{Session, new_session, FeedsStore}
 use Rattle.blocking_io.specs.declared.serving.Ending.{Ending}
 use Rattle.blocking_io.specs.declared.serving.Ending.TheVariants.{Closed, EndOfInput}
 use Rattle.blocking_io.specs.declared.serving.ServeFault.{ServeFault}
@@ -19,7 +19,7 @@ pub record FedPart (x : Setting) (h : History) (old : Session) (piece : List ℕ
   pub part : List ℕ
   pub rest : List ℕ
   pub whole : piece ≡ part ++ rest
-  pub fed : Fed x h old part answer store new [] out
+  pub fed : FeedsStore x h old part answer store new [] out
 
 -- All of them were served, or those up to the end of the frame that closed the session.
 pub record FedWhole (x : Setting) (h : History) (old : Session) (piece : List ℕ) (store : StoreState) (new : Session) (out : List ℕ) : Type 0 where
@@ -46,7 +46,7 @@ ServesStream x h turns (Err TurnsUsedUp) read out left store = IsStreamServed x 
 -- What was written for the first frame of a piece, by the answer: so many bytes of the piece were
 -- served.
 abbrev pub ServesFirst : Setting → History → Session → List ℕ → Result ℕ ServeFault → StoreState → Option Session → List ℕ → Type 0
-ServesFirst x h old piece (Ok count) store new bytes = (s : Session) × (new ≡ Some s) × Fed x h old (take count piece) (Ok tt) store s [] bytes
+ServesFirst x h old piece (Ok count) store new bytes = (s : Session) × (new ≡ Some s) × FeedsStore x h old (take count piece) (Ok tt) store s [] bytes
 ServesFirst x h old piece (Err IdInUse) store new bytes = ⊥
 ServesFirst x h old piece (Err Read) store new bytes = ⊥
 ServesFirst x h old piece (Err Write) store new bytes =

@@ -12,7 +12,7 @@ use Rattle.byteorder.specs.Numbers.{little_from-bytes}
 use Rattle.sha2.specs.Sha256.{sha256, digest_bytes}
 use Rattle.frame_codec.specs.Numbers.{number_bytes, number_in}
 use Rattle.frame_codec.proofs.NumberBytes.{IsBytes, IsBytes-drop, only_bytes, length-number, number_back, drop_number}
-use Rattle.change_file.specs.Files.{HintMove, IsMove, is_prefix, block_bytes, block_len, body_bytes, first_move, move_at, next_link}
+use Rattle.change_file.specs.Files.{HintMove, IsMove, is_prefix, block_bytes, block_len, block_body, first_move, move_at, next_block_link}
 
 -- two lists are cut at the same place
 pub cut_prefix : (a b x y : List ℕ) → length a ≡ length b → a ++ x ≡ b ++ y → (a ≡ b) × (x ≡ y)
@@ -33,13 +33,13 @@ pub length-sha256 : (m : List ℕ) → length (sha256 m) ≡ 32
 unfolding sha256
 length-sha256 m = length-digest_bytes _ 8
 
-pub length-body : (m : HintMove) → length (body_bytes m) ≡ length m.entries + 24
-unfolding body_bytes
+pub length-body : (m : HintMove) → length (block_body m) ≡ length m.entries + 24
+unfolding block_body
 length-body m = simp (length-append, length-number) (omega arith)
 
 pub length-block : (link : List ℕ) (m : HintMove) → length (block_bytes link m) ≡ block_len m
 length-block link m =
-    omega (arith, length-append (body_bytes m) (next_link link m), length-body m, length-sha256 (link ++ body_bytes m))
+    omega (arith, length-append (block_body m) (next_block_link link m), length-body m, length-sha256 (link ++ block_body m))
 
 -- ---- the move that bytes name
 
@@ -62,10 +62,10 @@ record HasFields (m : HintMove) (more bytes : List ℕ) : Type 0 where
   pub len : (rest : List ℕ) × (drop 20 bytes ≡ number_bytes 4 (length m.entries) ++ rest)
   pub entries : drop 24 bytes ≡ m.entries ++ more
 
-fields_of : (m : HintMove) (more : List ℕ) → HasFields m more (body_bytes m ++ more)
-unfolding body_bytes
+fields_of : (m : HintMove) (more : List ℕ) → HasFields m more (block_body m ++ more)
+unfolding block_body
 fields_of m more =
-    let bytes : List ℕ = body_bytes m ++ more in
+    let bytes : List ℕ = block_body m ++ more in
     let rest4 : List ℕ = m.entries ++ more in
     let rest3 : List ℕ = number_bytes 4 (length m.entries) ++ rest4 in
     let rest2 : List ℕ = number_bytes 4 m.count ++ rest3 in
@@ -78,16 +78,16 @@ fields_of m more =
     record { since = (rest1, at0); version = (rest2, at8); count = (rest3, at16); len = (rest4, at20); entries = at24 }
 
 -- the bytes of a block name its move
-pub move_back : (m : HintMove) (more : List ℕ) → IsMove m → move_at (body_bytes m ++ more) ≡ m
+pub move_back : (m : HintMove) (more : List ℕ) → IsMove m → move_at (block_body m ++ more) ≡ m
 unfolding move_at
 move_back m more is =
     let at = fields_of m more in
-    let len : number_in 4 (drop 20 (body_bytes m ++ more)) ≡ length m.entries = ap (number_in 4) at.len.1 ∙ number_back 4 (length m.entries) at.len.0 is.len in
-    same_move (move_at (body_bytes m ++ more)) m
+    let len : number_in 4 (drop 20 (block_body m ++ more)) ≡ length m.entries = ap (number_in 4) at.len.1 ∙ number_back 4 (length m.entries) at.len.0 is.len in
+    same_move (move_at (block_body m ++ more)) m
     (ap (number_in 8) at.since.1 ∙ number_back 8 m.since at.since.0 is.since)
     (ap (number_in 8) at.version.1 ∙ number_back 8 m.version at.version.0 is.version)
     (ap (number_in 4) at.count.1 ∙ number_back 4 m.count at.count.0 is.count)
-    (ap (λ (n : ℕ). take n (drop 24 (body_bytes m ++ more))) len ∙ ap (take (length m.entries)) at.entries ∙ take_at m.entries more (length m.entries) refl)
+    (ap (λ (n : ℕ). take n (drop 24 (block_body m ++ more))) len ∙ ap (take (length m.entries)) at.entries ∙ take_at m.entries more (length m.entries) refl)
 
 -- what is read back of a number has its range
 read-lt : (n x k : ℕ) (bytes rest : List ℕ) → bytes ≡ number_bytes n x ++ rest → k ≡ number_in n bytes → k < 256 ^ n
@@ -98,11 +98,11 @@ read-lt n x k bytes rest e is =
     omega (arith, read, some)
 
 -- numbers that are read back of a block are in range
-pub is_move : (m : HintMove) (more : List ℕ) → move_at (body_bytes m ++ more) ≡ m → IsMove m
+pub is_move : (m : HintMove) (more : List ℕ) → move_at (block_body m ++ more) ≡ m → IsMove m
 unfolding move_at
 is_move m more e =
     let at = fields_of m more in
-    let bytes : List ℕ = body_bytes m ++ more in
+    let bytes : List ℕ = block_body m ++ more in
     let len : number_in 4 (drop 20 bytes) < 256 ^ 4 = read-lt 4 (length m.entries) (number_in 4 (drop 20 bytes)) (drop 20 bytes) at.len.0 at.len.1 refl in
     record {
       since = read-lt 8 m.since m.since bytes at.since.0 at.since.1 (sym (ap (λ (x : HintMove). x.since) e));
@@ -112,7 +112,7 @@ is_move m more e =
     }
 
 -- the length of the entries comes before them
-pub entries_len : (m : HintMove) (bytes more : List ℕ) → IsMove m → bytes ≡ body_bytes m ++ more → little_number 4 (drop 20 bytes) ≡ length m.entries
+pub entries_len : (m : HintMove) (bytes more : List ℕ) → IsMove m → bytes ≡ block_body m ++ more → little_number 4 (drop 20 bytes) ≡ length m.entries
 unfolding number_in
 entries_len m bytes more is e =
     let at = fields_of m more in
@@ -130,8 +130,8 @@ number_after n x k bytes each le e =
 -- a move that was read encodes its bytes
 pub body_read : (m : HintMove) (bytes body : List ℕ) (n : ℕ) → IsBytes bytes → length body ≡ 24 + n → body ≡ take (24 + n) bytes → 24 + n ≤ length bytes
     → m.since ≡ little_number 8 bytes → m.version ≡ little_number 8 (drop 8 bytes) → m.count ≡ little_number 4 (drop 16 bytes)
-    → n ≡ little_number 4 (drop 20 bytes) → m.entries ≡ drop 24 body → body ≡ body_bytes m
-unfolding body_bytes
+    → n ≡ little_number 4 (drop 20 bytes) → m.entries ≡ drop 24 body → body ≡ block_body m
+unfolding block_body
 body_read m bytes body n each len is le since version count length_read entries =
     let as_many : length m.entries ≡ n = omega (arith, len, ap length entries, length-drop 24 body) in
     let at8 : number_bytes 8 m.since ≡ take 8 bytes = number_after 8 m.since 0 bytes each (omega arith) since in
@@ -171,7 +171,7 @@ pub first_back : (link more : List ℕ) (m : HintMove) → IsMove m → first_mo
 unfolding first_move
 first_back link more m is =
     let bytes : List ℕ = block_bytes link m ++ more in
-    let at : move_at bytes ≡ m = ap move_at (append_assoc (body_bytes m) (next_link link m) more) ∙ move_back m (next_link link m ++ more) is in
+    let at : move_at bytes ≡ m = ap move_at (append_assoc (block_body m) (next_block_link link m) more) ∙ move_back m (next_block_link link m ++ more) is in
     let begun = prefix_from (block_bytes link (move_at bytes)) bytes more (ap (λ (x : HintMove). block_bytes link x ++ more) (sym at)) in
     let same = eq-eqb (move_at bytes).since m.since (ap (λ (x : HintMove). x.since) at) in
     cond-true _ (Some (move_at bytes)) None (and_from _ _ begun same) ∙ ap Some at
@@ -196,30 +196,30 @@ first_found link bytes version m e =
     (prefix_parts (block_bytes link (move_at bytes)) bytes parts.0) in
     let whole : bytes ≡ block_bytes link m ++ drop (block_len m) bytes =
     begun ∙ ap (λ (n : ℕ). block_bytes link m ++ drop n bytes) (length-block link m) in
-    let named : move_at (body_bytes m ++ (next_link link m ++ drop (block_len m) bytes)) ≡ m =
-    ap move_at (sym (append_assoc (body_bytes m) (next_link link m) (drop (block_len m) bytes))) ∙ ap move_at (sym whole) ∙ was.1 in
+    let named : move_at (block_body m ++ (next_block_link link m ++ drop (block_len m) bytes)) ≡ m =
+    ap move_at (sym (append_assoc (block_body m) (next_block_link link m) (drop (block_len m) bytes))) ∙ ap move_at (sym whole) ∙ was.1 in
     record {
-      is = is_move m (next_link link m ++ drop (block_len m) bytes) named;
+      is = is_move m (next_block_link link m ++ drop (block_len m) bytes) named;
       follows = sym (ap (λ (x : HintMove). x.since) was.1) ∙ eqb-true (move_at bytes).since version parts.1;
       whole = whole;
     }
 
 -- no two blocks are at one place
-pub one_block : (m other : HintMove) (a b x y : List ℕ) → IsMove m → IsMove other → length a ≡ length b → body_bytes m ++ (a ++ x) ≡ body_bytes other ++ (b ++ y) →
+pub one_block : (m other : HintMove) (a b x y : List ℕ) → IsMove m → IsMove other → length a ≡ length b → block_body m ++ (a ++ x) ≡ block_body other ++ (b ++ y) →
     (m ≡ other) × (a ≡ b)
 one_block m other a b x y is io len e =
     let same : m ≡ other = sym (move_back m (a ++ x) is) ∙ ap move_at e ∙ move_back other (b ++ y) io in
-    let after = cut_prefix (body_bytes m) (body_bytes other) (a ++ x) (b ++ y) (ap (λ (k : HintMove). length (body_bytes k)) same) e in
+    let after = cut_prefix (block_body m) (block_body other) (a ++ x) (b ++ y) (ap (λ (k : HintMove). length (block_body k)) same) e in
     (same, (cut_prefix a b x y len after.1).0)
 
 -- what was taken apart is a block
-pub block_joined : (link bytes body digest rest : List ℕ) (m : HintMove) → body ≡ body_bytes m → digest ≡ sha256 (link ++ body) → bytes ≡ body ++ (digest ++ rest) →
+pub block_joined : (link bytes body digest rest : List ℕ) (m : HintMove) → body ≡ block_body m → digest ≡ sha256 (link ++ body) → bytes ≡ body ++ (digest ++ rest) →
     bytes ≡ block_bytes link m ++ rest
 block_joined link bytes body digest rest m is linked e =
     e
     ∙ ap (λ (x : List ℕ). body ++ (x ++ rest)) linked
     ∙ ap (λ (x : List ℕ). x ++ (sha256 (link ++ x) ++ rest)) is
-    ∙ sym (append_assoc (body_bytes m) (next_link link m) rest)
+    ∙ sym (append_assoc (block_body m) (next_block_link link m) rest)
 
 pub first_none : (link bytes : List ℕ) (version : ℕ) → ((m : HintMove) (more : List ℕ) → IsMove m → m.since ≡ version → bytes ≢ block_bytes link m ++ more) →
     first_move link version bytes ≡ None

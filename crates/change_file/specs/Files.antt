@@ -28,42 +28,42 @@ abbrev pub tie_bytes : List ℕ → List ℕ
 tie_bytes digest = change_magic ++ digest
 
 -- the link before the first block: the digest by SHA-256 (FIPS 180-4) of all that
-abbrev pub first_link : List ℕ → List ℕ
-first_link digest = sha256 (tie_bytes digest)
+abbrev pub first_block_link : List ℕ → List ℕ
+first_block_link digest = sha256 (tie_bytes digest)
 
 -- the head, 72 bytes
-abbrev pub head_bytes : List ℕ → List ℕ
-head_bytes digest = tie_bytes digest ++ first_link digest
+abbrev pub changes_head : List ℕ → List ℕ
+changes_head digest = tie_bytes digest ++ first_block_link digest
 
 -- a block without its link: both versions, the count, the length of the entries, and the entries
-unfoldable pub body_bytes : HintMove → List ℕ
-body_bytes m = number_bytes 8 m.since ++ number_bytes 8 m.version ++ number_bytes 4 m.count ++ number_bytes 4 (length m.entries) ++ m.entries
+unfoldable pub block_body : HintMove → List ℕ
+block_body m = number_bytes 8 m.since ++ number_bytes 8 m.version ++ number_bytes 4 m.count ++ number_bytes 4 (length m.entries) ++ m.entries
 
 -- the link after a block, by the link before it
-abbrev pub next_link : List ℕ → HintMove → List ℕ
-next_link link m = sha256 (link ++ body_bytes m)
+abbrev pub next_block_link : List ℕ → HintMove → List ℕ
+next_block_link link m = sha256 (link ++ block_body m)
 
 -- a block
 abbrev pub block_bytes : List ℕ → HintMove → List ℕ
-block_bytes link m = body_bytes m ++ next_link link m
+block_bytes link m = block_body m ++ next_block_link link m
 
 -- how many bytes a block has
 abbrev pub block_len : HintMove → ℕ
 block_len m = length m.entries + 56
 
 -- blocks one after another, by the link before the first
-abbrev pub chain_bytes : List ℕ → List HintMove → List ℕ
-chain_bytes link [] = []
-chain_bytes link (m ∷ ms) = block_bytes link m ++ chain_bytes (next_link link m) ms
+abbrev pub blocks_bytes : List ℕ → List HintMove → List ℕ
+blocks_bytes link [] = []
+blocks_bytes link (m ∷ ms) = block_bytes link m ++ blocks_bytes (next_block_link link m) ms
 
 -- a file of changes
 abbrev pub file_bytes : List ℕ → List HintMove → List ℕ
-file_bytes digest ms = head_bytes digest ++ chain_bytes (first_link digest) ms
+file_bytes digest ms = changes_head digest ++ blocks_bytes (first_block_link digest) ms
 
 -- the link after blocks
-abbrev pub last_link : List ℕ → List HintMove → List ℕ
-last_link link [] = link
-last_link link (m ∷ ms) = last_link (next_link link m) ms
+abbrev pub last_block_link : List ℕ → List HintMove → List ℕ
+last_block_link link [] = link
+last_block_link link (m ∷ ms) = last_block_link (next_block_link link m) ms
 
 -- the version after moves
 abbrev pub last_version : ℕ → List HintMove → ℕ
@@ -115,7 +115,7 @@ with_more (Some m) more = m ∷ more m
 unfoldable pub first_moves : ℕ → List ℕ → ℕ → List ℕ → List HintMove
 first_moves zero link version bytes = []
 first_moves (suc n) link version bytes =
-    with_more (first_move link version bytes) (λ m. first_moves n (next_link link m) m.version (drop (block_len m) bytes))
+    with_more (first_move link version bytes) (λ m. first_moves n (next_block_link link m) m.version (drop (block_len m) bytes))
 
 -- all moves whose blocks bytes begin with, after a link and a version; there are no more of them
 -- than bytes
@@ -125,7 +125,7 @@ moves_in link version bytes = first_moves (length bytes) link version bytes
 -- the moves of a file of changes, from the version of the hint whose file's head has this digest;
 -- none if the file has another head
 abbrev pub file_moves : List ℕ → ℕ → List ℕ → List HintMove
-file_moves digest version bytes = if is_prefix (head_bytes digest) bytes then moves_in (first_link digest) version (drop 72 bytes) else []
+file_moves digest version bytes = if is_prefix (changes_head digest) bytes then moves_in (first_block_link digest) version (drop 72 bytes) else []
 
 -- the moves whose blocks are whole in so many bytes
 abbrev pub whole_in : ℕ → List HintMove → List HintMove
@@ -133,30 +133,30 @@ whole_in n [] = []
 whole_in n (m ∷ ms) = if nat_le (block_len m) n then m ∷ whole_in (n - block_len m) ms else []
 
 -- the block that bytes begin with, with the link after it and its length
-pub record IsNext (link : List ℕ) (version : ℕ) (bytes : List ℕ) (next : WholeBlock) : Type 0 where
+pub record IsNextBlock (link : List ℕ) (version : ℕ) (bytes : List ℕ) (next : WholeBlock) : Type 0 where
   pub move : first_move link version bytes ≡ Some (move_of next.block)
-  pub link_is : next.link.bytes ≡ next_link link (move_of next.block)
+  pub link_is : next.link.bytes ≡ next_block_link link (move_of next.block)
   pub len : next.len ≡ block_len (move_of next.block)
   pub within : next.len ≤ length bytes
 
 -- the end of some blocks: how many bytes they have, and the link, the version and the count after
 -- them
 pub record IsChainEnd (link : List ℕ) (version count : ℕ) (ms : List HintMove) (end : ChangesEnd) : Type 0 where
-  pub len : end.len ≡ length (chain_bytes link ms)
-  pub link_is : end.link.bytes ≡ last_link link ms
+  pub len : end.len ≡ length (blocks_bytes link ms)
+  pub link_is : end.link.bytes ≡ last_block_link link ms
   pub version_is : end.version ≡ last_version version ms
   pub count_is : end.count ≡ last_count count ms
 
 -- the end of the whole blocks of a file of changes, if these are its moves: it has the head of this
 -- hint's changes, then these blocks, and then what is not read
-pub record IsEndOf (digest : List ℕ) (version count : ℕ) (bytes : List ℕ) (ms : List HintMove) (end : ChangesEnd) : Type 0 where
+pub record IsEndOfBlocks (digest : List ℕ) (version count : ℕ) (bytes : List ℕ) (ms : List HintMove) (end : ChangesEnd) : Type 0 where
   pub len : end.len ≡ length (file_bytes digest ms)
   pub within : end.len ≤ length bytes
   pub whole : bytes ≡ file_bytes digest ms ++ drop end.len bytes
-  pub link_is : end.link.bytes ≡ last_link (first_link digest) ms
+  pub link_is : end.link.bytes ≡ last_block_link (first_block_link digest) ms
   pub version_is : end.version ≡ last_version version ms
   pub count_is : end.count ≡ last_count count ms
 
 -- the end of the whole blocks of a file of changes
 abbrev pub IsEnd : List ℕ → ℕ → ℕ → List ℕ → ChangesEnd → Type 0
-IsEnd digest version count bytes end = IsEndOf digest version count bytes (file_moves digest version bytes) end
+IsEnd digest version count bytes end = IsEndOfBlocks digest version count bytes (file_moves digest version bytes) end

@@ -8,13 +8,13 @@ use Rattle.hint_changes.specs.Entries.{changes_in}
 use Rattle.change_file.specs.Files.{HintMove}
 
 -- the shape of so many records
-abbrev pub with_count : Shape → ℕ → Shape
-with_count l count = record l { count = count }
+abbrev pub shape_with_count : Shape → ℕ → Shape
+shape_with_count l count = record l { count = count }
 
 -- a SimplePIR hint after a move, in the shape of its count, under the first public matrix of a seed
 abbrev pub moved_once : Shape → List ℕ → ℕ → HintMove → WordMatrix → WordMatrix
 moved_once l seed dimension m hint =
-    moved (with_count l m.count) (public_rows seed 0 0 (digit_cols (with_count l m.count)) dimension) (changes_in l.record_len m.entries) hint
+    moved (shape_with_count l m.count) (public_rows seed 0 0 (digit_cols (shape_with_count l m.count)) dimension) (changes_in l.record_len m.entries) hint
 
 -- a SimplePIR hint after moves, one after another
 abbrev pub moved_by_all : Shape → List ℕ → ℕ → List HintMove → WordMatrix → WordMatrix

@@ -3,8 +3,8 @@
 ghost use Rattle.std.specs.Prelude.{◌≡◌, ◌≢◌, ◌<◌, ◌^◌, ◌++◌, List, ℕ, length, None, IfOk, IfSome};
 ghost use Rattle.std.specs.Prelude.{IfNone};
 ghost use Rattle.sha2.specs.Sha256.{sha256};
-ghost use Rattle.change_file.specs.Files.{HintMove, IsMove, IsNext, body_bytes, block_bytes};
-ghost use Rattle.change_file.specs.Files.{first_move, move_of, next_link};
+ghost use Rattle.change_file.specs.Files.{HintMove, IsMove, IsNextBlock, block_body, block_bytes};
+ghost use Rattle.change_file.specs.Files.{first_move, move_of, next_block_link};
 
 use byteorder::{ByteOrder, LittleEndian};
 use sha2::{Digest, Sha256};
@@ -63,10 +63,10 @@ fn link_after(link: &Link, body: &[u8]) -> Link
 }
 
 // A block without its link, with room for that.
-#[tactic(auto, unfolding(crate::specs::Files::body_bytes, frame_codec::specs::Numbers::number_bytes))]
+#[tactic(auto, unfolding(crate::specs::Files::block_body, frame_codec::specs::Numbers::number_bytes))]
 fn body_bytes(alloc: Global, block: &Block<'_>) -> Result<Vec<u8>, AllocError>
     requires { length block.now.entries.now < 2 ^ 32 }
-    ensures { IfOk result (λ body. body.items ≡ body_bytes (move_of block.now)) }
+    ensures { IfOk result (λ body. body.items ≡ block_body (move_of block.now)) }
 {
     let len = block.entries.len();
     let mut body = Vec::with_capacity(alloc, FIELDS_LEN + len + LINK_LEN)?;
@@ -88,7 +88,7 @@ pub fn block_bytes(alloc: Global, link: &Link, block: &Block<'_>) -> Result<Bloc
     ensures bytes { IfOk result (λ it. it.bytes.items ≡
         block_bytes link.now.bytes (move_of block.now)) }
     ensures link { IfOk result (λ it. it.link.bytes ≡
-        next_link link.now.bytes (move_of block.now)) }
+        next_block_link link.now.bytes (move_of block.now)) }
 {
     let mut bytes = body_bytes(alloc, block)?;
     let next = link_after(link, &bytes);
@@ -107,10 +107,10 @@ struct CutBlock<'a> {
 // The block at the beginning, if the bytes have room for its entries and a link.
 fn cut_block(bytes: &[u8]) -> Option<CutBlock<'_>>
     ensures some { IfSome result (λ it. IsMove (move_of it.block) × (length it.link.now ≡ 32) ×
-        (it.body.now ≡ body_bytes (move_of it.block)) ×
+        (it.body.now ≡ block_body (move_of it.block)) ×
         ((rest : List ℕ) × (bytes.now ≡ it.body.now ++ (it.link.now ++ rest)))) }
     ensures none { IfNone result ((m : HintMove) (link rest : List ℕ) → IsMove m →
-        length link ≡ 32 → bytes.now ≢ body_bytes m ++ (link ++ rest)) }
+        length link ≡ 32 → bytes.now ≢ block_body m ++ (link ++ rest)) }
 {
     if bytes.len() < FIELDS_LEN {
         return None;
@@ -135,7 +135,7 @@ fn cut_block(bytes: &[u8]) -> Option<CutBlock<'_>>
 /// since this version. No memory is taken, and no length is trusted that the bytes have no room
 /// for.
 pub fn next_block<'a>(bytes: &'a [u8], link: &Link, since: u64) -> Option<WholeBlock<'a>>
-    ensures some { IfSome result (λ it. IsNext link.now.bytes since bytes.now it) }
+    ensures some { IfSome result (λ it. IsNextBlock link.now.bytes since bytes.now it) }
     ensures none { IfNone result (first_move link.now.bytes since bytes.now ≡ None) }
 {
     let cut = cut_block(bytes)?;

@@ -1,7 +1,8 @@
 //! Where the whole blocks of a file end.
 
 ghost use Rattle.std.specs.Prelude.{◌≡◌, ◌≢◌, ◌≤◌, ◌++◌, List, ℕ, length, IfSome, IfNone};
-ghost use Rattle.change_file.specs.Files.{IsChainEnd, IsEnd, first_link, head_bytes, moves_in};
+ghost use Rattle.change_file.specs.Files.{IsChainEnd, IsEnd, first_block_link, changes_head};
+ghost use Rattle.change_file.specs.Files.{moves_in};
 
 use crate::blocks::{Link, next_block};
 use crate::heads::{HEAD_LEN, first_link, read_head};
@@ -22,7 +23,7 @@ pub struct ChangesEnd {
 /// The end of a file of changes that has no block yet, by the digest of the head of the hint's
 /// file, and the version and the number of records of that hint. No memory is taken.
 pub fn empty_end(hint_digest: &[u8; 32], version: u64, count: u32) -> ChangesEnd
-    ensures place { (result.len ≡ 72) × (result.link.bytes ≡ first_link hint_digest.now) }
+    ensures place { (result.len ≡ 72) × (result.link.bytes ≡ first_block_link hint_digest.now) }
     ensures moved { (result.version ≡ version) × (result.count ≡ count) }
 {
     ChangesEnd {
@@ -66,7 +67,7 @@ fn chain_end(bytes: &[u8], link: Link, version: u64, count: u32) -> ChangesEnd
 pub fn end_in(bytes: &[u8], hint_digest: &[u8; 32], version: u64, count: u32) -> Option<ChangesEnd>
     ensures some { IfSome result (λ end. IsEnd hint_digest.now version count bytes.now end) }
     ensures none { IfNone result ((rest : List ℕ) →
-        bytes.now ≢ head_bytes hint_digest.now ++ rest) }
+        bytes.now ≢ changes_head hint_digest.now ++ rest) }
 {
     let first = read_head(bytes, hint_digest)?;
     let (_head, rest) = bytes.split_at(HEAD_LEN);

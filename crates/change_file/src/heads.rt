@@ -2,7 +2,7 @@
 
 ghost use Rattle.std.specs.Prelude.{◌≡◌, ◌≢◌, ◌≤◌, ◌++◌, List, ℕ, length, drop, IfSome, IfNone};
 ghost use Rattle.std.specs.Prelude.{MatchOption};
-ghost use Rattle.change_file.specs.Files.{change_magic, first_link, head_bytes};
+ghost use Rattle.change_file.specs.Files.{change_magic, first_block_link, changes_head};
 
 use crate::blocks::{LINK_LEN, Link};
 use sha2::{Digest, Sha256};
@@ -23,7 +23,7 @@ fn magic() -> [u8; MAGIC_LEN]
 
 // The link before the first block.
 pub(crate) fn first_link(hint_digest: &[u8; 32]) -> Link
-    ensures { result.bytes ≡ first_link hint_digest.now }
+    ensures { result.bytes ≡ first_block_link hint_digest.now }
 {
     let mut hasher = Sha256::new();
     hasher.update(&magic());
@@ -35,7 +35,7 @@ pub(crate) fn first_link(hint_digest: &[u8; 32]) -> Link
 
 /// The head of the changes of a hint whose file's head has this digest. No memory is taken.
 pub fn head_bytes(hint_digest: &[u8; 32]) -> [u8; HEAD_LEN]
-    ensures { result ≡ head_bytes hint_digest.now }
+    ensures { result ≡ changes_head hint_digest.now }
 {
     let mut head = [0; HEAD_LEN];
     let (begin, rest) = head.split_at_mut(MAGIC_LEN);
@@ -57,11 +57,11 @@ fn after<'a>(bytes: &'a [u8], first: &[u8]) -> Option<&'a [u8]>
 /// The link before the first block of a file of changes, if the bytes begin with the head of the
 /// changes of this hint.
 pub fn read_head(bytes: &[u8], hint_digest: &[u8; 32]) -> Option<Link>
-    ensures some { IfSome result (λ link. (link.bytes ≡ first_link hint_digest.now) ×
-        (bytes.now ≡ head_bytes hint_digest.now ++ drop 72 bytes.now)) }
+    ensures some { IfSome result (λ link. (link.bytes ≡ first_block_link hint_digest.now) ×
+        (bytes.now ≡ changes_head hint_digest.now ++ drop 72 bytes.now)) }
     ensures room { IfSome result (λ link. 72 ≤ length bytes.now) }
     ensures none { IfNone result ((rest : List ℕ) →
-        bytes.now ≢ head_bytes hint_digest.now ++ rest) }
+        bytes.now ≢ changes_head hint_digest.now ++ rest) }
 {
     let head = head_bytes(hint_digest);
     let Some(_rest) = after(bytes, &head) else {

@@ -4,7 +4,7 @@ use Rattle.std.specs.Prelude.{Result, is_some, if◌then◌else◌}
 use Rattle.client_core.specs.declared.state.ClientState.{ClientState}
 use Rattle.client_core.specs.declared.state.CallFault.{CallFault}
 use Rattle.client_core.specs.declared.resuming.SavedClient.{SavedClient}
-use Rattle.client_core.specs.Calls.{Ask, refusal, change_refusal}
+use Rattle.client_core.specs.Calls.{Ask, call_refusal, change_refusal}
 use Rattle.client_core.specs.Resuming.{IsResumed, IsDropped}
 use Rattle.client_commands.specs.Kept.{MakesNoSync}
 use Rattle.client_commands.specs.Runs.{number_after_ask}
@@ -26,7 +26,7 @@ one_at_most i old holding asked new saved answer resumed spent dropped =
     let held : holding.number ≡ old.number = ap (λ (c : ClientState). c.number) resumed.1.state in
     let last : new.number ≡ asked.number = dropped_number asked new answer dropped in
     let spends : (holding.number ≤ number_after_ask i holding) × (number_after_ask i holding ≤ holding.number + 1) =
-    by holding.number (is_some (refusal (Ask i) holding)) in
+    by holding.number (is_some (call_refusal (Ask i) holding)) in
     (omega (arith, held, last, spent, spends.0), omega (arith, held, last, spent, spends.1))
   where
     by : (n : ℕ) (b : Bool) → (n ≤ (if b then n else n + 1)) × ((if b then n else n + 1) ≤ n + 1)

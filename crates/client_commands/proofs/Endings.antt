@@ -8,7 +8,7 @@ use Rattle.client_core.specs.Calls.{ClientCall, Ask, Edit, Append, Publish, stat
 use Rattle.client_core.specs.Endings.{Ends}
 use Rattle.client_core.specs.Feeding.{Client}
 use Rattle.client_commands.specs.declared.fault.CommandError.{CommandError}
-use Rattle.client_commands.specs.Transcripts.{most_reads, IsDone, Exchanges, ComesTo, IsRecordAsked, IsDoneVersion}
+use Rattle.client_commands.specs.Transcripts.{most_reads, IsSuccess, Exchanges, ComesTo, IsRecordAsked, IsDoneVersion}
 use Rattle.client_commands.proofs.Conversations.{event_ends_the_call}
 
 -- the event of a call ends it
@@ -17,7 +17,7 @@ ends : (want : ClientCall) (old : Client) (event : Event) (read out : List ℕ) 
 ends want old event read out left new x =
     subst (λ (c : ClientState). Ends c.call event) x.accepted.state (event_ends_the_call x.called x.first most_reads event read out left new x.answered.1)
 
-retrieved_ends : (i : ℕ) (c : ClientState) (e : Event) → IsDone e → Ends (state_after_call (Ask i) c).call e → IsRecordAsked i e
+retrieved_ends : (i : ℕ) (c : ClientState) (e : Event) → IsSuccess e → Ends (state_after_call (Ask i) c).call e → IsRecordAsked i e
 retrieved_ends i c (event.Retrieved index of bytes) done h = h.0
 retrieved_ends i c (event.Unreadable index of) done h = absurd done
 retrieved_ends i c (event.Stale of) done h = absurd done
@@ -26,7 +26,7 @@ retrieved_ends i c (event.Welcomed of) done h = absurd h
 retrieved_ends i c (event.Synced scheme of) done h = absurd h
 retrieved_ends i c (event.Done of) done h = absurd h
 
-version_of_edit : (i : ℕ) (bytes : List ℕ) (c : ClientState) (e : Event) → IsDone e → Ends (state_after_call (Edit i bytes) c).call e → IsDoneVersion e
+version_of_edit : (i : ℕ) (bytes : List ℕ) (c : ClientState) (e : Event) → IsSuccess e → Ends (state_after_call (Edit i bytes) c).call e → IsDoneVersion e
 version_of_edit i b c (event.Done of) done h = tt
 version_of_edit i b c (event.Retrieved index of bytes) done h = absurd h
 version_of_edit i b c (event.Unreadable index of) done h = absurd done
@@ -35,7 +35,7 @@ version_of_edit i b c (event.Refused code) done h = absurd done
 version_of_edit i b c (event.Welcomed of) done h = absurd h
 version_of_edit i b c (event.Synced scheme of) done h = absurd h
 
-version_of_addition : (bytes : List ℕ) (c : ClientState) (e : Event) → IsDone e → Ends (state_after_call (Append bytes) c).call e → IsDoneVersion e
+version_of_addition : (bytes : List ℕ) (c : ClientState) (e : Event) → IsSuccess e → Ends (state_after_call (Append bytes) c).call e → IsDoneVersion e
 version_of_addition b c (event.Done of) done h = tt
 version_of_addition b c (event.Retrieved index of bytes) done h = absurd h
 version_of_addition b c (event.Unreadable index of) done h = absurd done
@@ -44,7 +44,7 @@ version_of_addition b c (event.Refused code) done h = absurd done
 version_of_addition b c (event.Welcomed of) done h = absurd h
 version_of_addition b c (event.Synced scheme of) done h = absurd h
 
-version_of_publication : (c : ClientState) (e : Event) → IsDone e → Ends (state_after_call Publish c).call e → IsDoneVersion e
+version_of_publication : (c : ClientState) (e : Event) → IsSuccess e → Ends (state_after_call Publish c).call e → IsDoneVersion e
 version_of_publication c (event.Done of) done h = tt
 version_of_publication c (event.Retrieved index of bytes) done h = absurd h
 version_of_publication c (event.Unreadable index of) done h = absurd done

@@ -13,7 +13,7 @@ use Rattle.client_core.specs.declared.state.Hint.{Hint}
 use Rattle.client_core.specs.declared.state.CallFault.{CallFault}
 use Rattle.client_core.specs.declared.state.CallFault.TheVariants.{NotReady, Busy, BadIndex, SeedUsedUp, Failed}
 use Rattle.client_core.specs.States.{is_idle, is_ready, known_version, known_count, simple_version, delta_base}
-use Rattle.client_core.specs.Calls.{ClientCall, Hello, Sync, Ask, Edit, Append, Publish, refusal, sync_frame, call_frame, call_words, Accepts}
+use Rattle.client_core.specs.Calls.{ClientCall, Hello, Sync, Ask, Edit, Append, Publish, call_refusal, sync_frame, call_frame, call_words, Accepts}
 use Rattle.client_core.specs.Resuming.{holding}
 use Rattle.client_commands.specs.Laws.{WordsOfAHintAreNotSent}
 
@@ -30,7 +30,7 @@ ready_alike None one other v = refl
 ready_alike (Some k) one other v = ap (λ (x : ℕ). x == k.version) v
 
 refused_alike : (c : ClientState) (want : ClientCall) (one other : Hint) → one.version ≡ other.version →
-    refusal want (holding c one) ≡ refusal want (holding c other)
+    call_refusal want (holding c one) ≡ call_refusal want (holding c other)
 refused_alike c (Ask i) one other v = ap (refusal_by c i) (ready_alike c.known one other v)
 refused_alike c (Hello key) one other v = refl
 refused_alike c (Sync scheme) one other v = refl

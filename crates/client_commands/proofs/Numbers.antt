@@ -6,7 +6,7 @@ use Rattle.client_core.specs.declared.state.CallFault.{CallFault}
 use Rattle.client_core.specs.declared.state.Event.{Event}
 use Rattle.client_core.specs.declared.state.Event.TheVariants as event
 use Rattle.client_core.specs.States.{delta_base}
-use Rattle.client_core.specs.Calls.{ClientCall, Hello, Sync, Ask, Edit, Append, Publish, refusal, Accepts, Refuses}
+use Rattle.client_core.specs.Calls.{ClientCall, Hello, Sync, Ask, Edit, Append, Publish, call_refusal, Accepts, Refuses}
 use Rattle.client_core.specs.Feeding.{Client}
 use Rattle.client_core.proofs.NumberLaws.{sync_number}
 use Rattle.client_core.proofs.EndingLaws.{feeding_spends_no_number}
@@ -15,7 +15,7 @@ use Rattle.client_core.specs.Laws.{Accepted, Lacking}
 use Rattle.client_commands.specs.declared.fault.CommandError.{CommandError}
 use Rattle.client_commands.specs.declared.fault.CommandError.TheVariants.{Refused, Stale, Unreadable, ShortSecrets, Call, Conversation}
 use Rattle.client_commands.specs.Runs.{number_after_ask}
-use Rattle.client_commands.specs.Transcripts.{most_reads, Answers, Exchanges, RefusesCall, ComesTo, CommandStep, Calls, Judges, EndsWith, IsLastOf, Transacts, retrieval}
+use Rattle.client_commands.specs.Transcripts.{most_reads, Answers, Exchanges, RefusesCall, ComesTo, CommandStep, Calls, Judges, EndsWith, IsLastOf, Transacts, get_steps}
 use Rattle.client_commands.proofs.Conversations.{HoldsOfFeeds, HoldsOfItself, conversing_keeps}
 use Rattle.client_commands.proofs.Seeds.{goes_on, feeding_keeps_seed}
 
@@ -131,7 +131,7 @@ ask_number old i result read out left new c = elim (either old (Ask i) result re
   | inr x ↦ asking_number old i result read out left new x ∙ sym (by_check old.state None x.accepted.may)
 ]
   where
-    by_check : (c : ClientState) (o : Option CallFault) → refusal (Ask i) c ≡ o → number_after_ask i c ≡ (if is_some o then c.number else c.number + 1)
+    by_check : (c : ClientState) (o : Option CallFault) → call_refusal (Ask i) c ≡ o → number_after_ask i c ≡ (if is_some o then c.number else c.number + 1)
     by_check c o e = ap (λ (x : Option CallFault). if is_some x then c.number else c.number + 1) e
 
 -- ---- a command
@@ -211,7 +211,7 @@ look_then least step later old result read out left new rest (inr h) =
 -- a retrieval spends one number with a record, and one at most with a failure
 pub retrieval_spends : (least : ℕ) (scheme : Scheme) (index : ℕ) (old : Client) (result : Result Event CommandError) (read out : List ℕ)
     (left : Option (List ℕ)) (new : Client)
-    → Transacts old (retrieval least scheme index) result read out left new → Spends result old.state.number new.state.number
+    → Transacts old (get_steps least scheme index) result read out left new → Spends result old.state.number new.state.number
 retrieval_spends least scheme index old result read out left new t =
     calm_then (Hello _) _ _ old result read out left new tt
     (λ a r o. look_then least _ _ a result r o left new

@@ -16,7 +16,7 @@ use Rattle.client_core.specs.declared.state.Event.{Event}
 use Rattle.client_core.specs.States.{delta_base}
 use Rattle.client_core.specs.Feeding.{Client, Course, start, course_after_reply, course_more, runs, takes_all, failing, ends_with, codec_fault, Follows, BreaksOff, FeedsOpen, FeedsFailed, FeedsClient}
 use Rattle.client_core.specs.Calls.{ClientCall, Hello, Sync, Ask, Edit, Append, Publish, sync_begun}
-use Rattle.client_core.specs.Replies.{AfterReply, plan_given, reaction_to_reply, more_parts, reaction_to_stale, moved, changed, goes_by_parts}
+use Rattle.client_core.specs.Replies.{AfterReply, plan_given, reaction_to_reply, reaction_to_part, reaction_to_stale, reaction_to_delta, reaction_to_changes, reaction_to_no_delta}
 use Rattle.client_core.specs.Kinds.{takes_welcome, takes_asked_part, takes_part, answered, takes_answer, takes_stale, takes_delta, takes_changes, takes_no_delta, takes_done, takes_refused}
 use Rattle.client_core.specs.Laws.{Happening, Accepted, TurnedDown, Lacking, Replied as Reply, Failing, after}
 use Rattle.client_core.proofs.NumberLaws.{takes_number, sync_number}
@@ -35,7 +35,7 @@ asked_part_seed : (known : Option ServerInfo) (s : Scheme) (c : ClientState) (v 
     (takes_asked_part known s c v p scheme version part words).state.seed ≡ c.seed
 asked_part_seed None s c v p scheme version part words = refl
 asked_part_seed (Some k) s c v p scheme version part words =
-    either c.seed _ (more_parts s k c v p (c.parts ++ words)) _ (either c.seed _ _ _ refl refl) refl
+    either c.seed _ (reaction_to_part s k c v p (c.parts ++ words)) _ (either c.seed _ _ _ refl refl) refl
 
 part_seed : (k : Call) (c : ClientState) (scheme version part : ℕ) (words : List ℕ) → (takes_part k c scheme version part words).state.seed ≡ c.seed
 part_seed (call.Sync s v p) c scheme version part words = asked_part_seed c.known s c v p scheme version part words
@@ -62,7 +62,7 @@ stale_seed (call.Ask i v m) c version count = staled_seed c.known c c v version 
 stale_seed _ c version count = refl
 
 moved_seed : (known : Option ServerInfo) (hint : Option Hint) (c : ClientState) (asked since now count : ℕ) (rows : RowList) →
-    (moved known hint c asked since now count rows).state.seed ≡ c.seed
+    (reaction_to_delta known hint c asked since now count rows).state.seed ≡ c.seed
 moved_seed None hint c asked since now count rows = refl
 moved_seed (Some k) None c asked since now count rows = refl
 moved_seed (Some k) (Some h) c asked since now count rows = either c.seed _ _ _ refl refl
@@ -72,7 +72,7 @@ delta_seed (call.Delta asked) c since now count rows = moved_seed c.known c.hint
 delta_seed _ c since now count rows = refl
 
 changed_seed : (known : Option ServerInfo) (hint : Option Hint) (c : ClientState) (asked since now count : ℕ) (entries : List ℕ) →
-    (changed known hint c asked since now count entries).state.seed ≡ c.seed
+    (reaction_to_changes known hint c asked since now count entries).state.seed ≡ c.seed
 changed_seed None hint c asked since now count entries = refl
 changed_seed (Some k) None c asked since now count entries = refl
 changed_seed (Some k) (Some h) c asked since now count entries = either c.seed _ _ _ refl refl
@@ -81,7 +81,7 @@ changes_seed : (k : Call) (c : ClientState) (since now count : ℕ) (entries : L
 changes_seed (call.Changes asked) c since now count entries = changed_seed c.known c.hint c asked since now count entries
 changes_seed _ c since now count entries = refl
 
-by_parts_seed : (known : Option ServerInfo) (c : ClientState) (version count : ℕ) → (goes_by_parts known c version count).state.seed ≡ c.seed
+by_parts_seed : (known : Option ServerInfo) (c : ClientState) (version count : ℕ) → (reaction_to_no_delta known c version count).state.seed ≡ c.seed
 by_parts_seed None c version count = refl
 by_parts_seed (Some k) c version count = either c.seed _ _ _ refl refl
 

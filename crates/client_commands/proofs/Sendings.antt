@@ -21,7 +21,7 @@ use Rattle.client_core.specs.Calls.{ClientCall, Hello, Sync, Ask, call_frame, sy
 use Rattle.client_core.specs.Feeding.{Client}
 use Rattle.client_commands.specs.Sent.{SendsCommand}
 use Rattle.client_commands.specs.declared.fault.CommandError.TheVariants.{Call}
-use Rattle.client_commands.specs.Transcripts.{most_reads, AnswersCall, Exchanges, Calls, Judges, Transacts, retrieval}
+use Rattle.client_commands.specs.Transcripts.{most_reads, AnswersCall, Exchanges, Calls, Judges, Transacts, get_steps}
 use Rattle.client_commands.proofs.Conversations.{event_leaves_the_hint}
 
 -- a call that came to an event has sent its frame, and what the client said after it
@@ -102,7 +102,7 @@ synced s old mid greeting event read1 out1 read2 out2 rest left1 left2 new bare 
 -- a retrieval that came to an event has sent the greeting, and after it the ask for the first part
 -- of the scheme's hint
 retrieval_sends : (least : ℕ) (s : Scheme) (index : ℕ) (old : Client) (event : Event) (read out : List ℕ) (left : Option (List ℕ)) (new : Client)
-    → old.state.hint ≡ None → Transacts old (retrieval least s index) (Ok event) read out left new → BeginsWith s old.state.profile out
+    → old.state.hint ≡ None → Transacts old (get_steps least s index) (Ok event) read out left new → BeginsWith s old.state.profile out
 unfolding Transacts
 retrieval_sends least s index old event read out left new bare (inl h) = absurd cc
 retrieval_sends least s index old event read out left new bare (inr h) = looked h.10
@@ -124,7 +124,7 @@ retrieval_sends least s index old event read out left new bare (inr h) = looked 
 -- the same, as a writer shows it
 pub retrieval_has_sent : (least : ℕ) (s : Scheme) (index : ℕ) (old : Client) (event : Event) (read out : List ℕ) (left held held2 : Option (List ℕ))
     (new : Client)
-    → old.state.hint ≡ None → Appends held held2 out → Transacts old (retrieval least s index) (Ok event) read out left new
+    → old.state.hint ≡ None → Appends held held2 out → Transacts old (get_steps least s index) (Ok event) read out left new
     → (version : ℕ) × SendsCommand held held2 (frame.Hello old.state.profile (replicate 32 0)) (frame.HintAsk (scheme_byte s) version 0)
 retrieval_has_sent least s index old event read out left held held2 new bare went t =
     let b = retrieval_sends least s index old event read out left new bare t in (b.0, (b.1, b.2, subst (Appends held held2) b.3 went))

@@ -2,13 +2,13 @@
 use Rattle.std.specs.Prelude.{◌≡◌, ℕ, List}
 use Rattle.client_core.specs.declared.state.ClientState.{ClientState}
 use Rattle.client_core.specs.declared.state.Hint.{Hint}
-use Rattle.client_core.specs.Calls.{ClientCall, refusal, call_frame, Accepts}
+use Rattle.client_core.specs.Calls.{ClientCall, call_refusal, call_frame, Accepts}
 use Rattle.client_core.specs.Resuming.{holding}
 
 -- With the one hint as with the other a client refuses a call alike, and else sends the same frame,
 -- and thereby the same bytes.
 pub record SendsAlike (c : ClientState) (want : ClientCall) (one other : Hint) : Type 0 where
-  pub refused : refusal want (holding c one) ≡ refusal want (holding c other)
+  pub refused : call_refusal want (holding c one) ≡ call_refusal want (holding c other)
   pub frame : call_frame want (holding c one) ≡ call_frame want (holding c other)
   pub bytes : (new later : ClientState) (sent said : List ℕ) → Accepts (holding c one) want new sent → Accepts (holding c other) want later said → sent ≡ said
 

@@ -21,16 +21,16 @@ most_reads = 1000000
 
 -- the event says nothing against its call: no refusal, no other current version, no record that
 -- can't be read
-abbrev pub IsDone : Event → Type 0
-IsDone (event.Refused code) = ⊥
-IsDone (event.Stale version) = ⊥
-IsDone (event.Unreadable index version) = ⊥
-IsDone _ = Unit {0}
+abbrev pub IsSuccess : Event → Type 0
+IsSuccess (event.Refused code) = ⊥
+IsSuccess (event.Stale version) = ⊥
+IsSuccess (event.Unreadable index version) = ⊥
+IsSuccess _ = Unit {0}
 
 -- What came of a call's bytes: the conversation over them came to an event, which is the answer, or
 -- is reported as what it says against the call; or it failed
 abbrev pub Answers : Client → List ℕ → Result Event CommandError → List ℕ → List ℕ → Option (List ℕ) → Client → Type 0
-Answers called first (Ok event) read out left new = IsDone event × Converses called first most_reads (Ok event) read out left new
+Answers called first (Ok event) read out left new = IsSuccess event × Converses called first most_reads (Ok event) read out left new
 Answers called first (Err (Refused code)) read out left new = Converses called first most_reads (Ok (event.Refused code)) read out left new
 Answers called first (Err (Stale version)) read out left new = Converses called first most_reads (Ok (event.Stale version)) read out left new
 Answers called first (Err (Unreadable index version)) read out left new =
@@ -118,20 +118,20 @@ Transacts old (step ∷ later) result read out left new =
 -- ---- the commands
 
 -- a retrieval: hello as a reader, a look at the secrets' length, sync, ask
-abbrev pub retrieval : ℕ → Scheme → ℕ → List CommandStep
-retrieval least scheme index = Calls (Hello (replicate 32 0)) ∷ (Judges least ∷ (Calls (Sync scheme) ∷ (Calls (Ask index) ∷ [])))
+abbrev pub get_steps : ℕ → Scheme → ℕ → List CommandStep
+get_steps least scheme index = Calls (Hello (replicate 32 0)) ∷ (Judges least ∷ (Calls (Sync scheme) ∷ (Calls (Ask index) ∷ [])))
 
 -- an edit: hello with the publisher's key, edit
-abbrev pub edition : List ℕ → ℕ → List ℕ → List CommandStep
-edition key index bytes = Calls (Hello key) ∷ (Calls (Edit index bytes) ∷ [])
+abbrev pub edit_steps : List ℕ → ℕ → List ℕ → List CommandStep
+edit_steps key index bytes = Calls (Hello key) ∷ (Calls (Edit index bytes) ∷ [])
 
 -- the addition of a record: hello with the publisher's key, append
-abbrev pub addition : List ℕ → List ℕ → List CommandStep
-addition key bytes = Calls (Hello key) ∷ (Calls (Append bytes) ∷ [])
+abbrev pub append_steps : List ℕ → List ℕ → List CommandStep
+append_steps key bytes = Calls (Hello key) ∷ (Calls (Append bytes) ∷ [])
 
 -- a publication: hello with the publisher's key, publish
-abbrev pub publication : List ℕ → List CommandStep
-publication key = Calls (Hello key) ∷ (Calls Publish ∷ [])
+abbrev pub publish_steps : List ℕ → List CommandStep
+publish_steps key = Calls (Hello key) ∷ (Calls Publish ∷ [])
 
 -- the event has this record
 abbrev pub IsRecordAsked : ℕ → Event → Type 0

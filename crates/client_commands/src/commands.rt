@@ -9,10 +9,10 @@ ghost use Rattle.client_commands.specs.Transcripts.{
   Transacts,
   IsRecordAsked,
   IsDoneVersion,
-  retrieval,
-  edition,
-  addition,
-  publication,
+  get_steps,
+  edit_steps,
+  append_steps,
+  publish_steps,
   as_retrieved,
   as_done,
 };
@@ -64,7 +64,7 @@ pub fn get<K: Kernel, R: Read, W: Write>(
     ensures transcript { (read : List ℕ) × (out : List ℕ)
         × Consumes (R.remaining reader.old) (R.remaining reader.new) read
         × Appends (W.contents writer.old) (W.contents writer.new) out
-        × Transacts client.old (retrieval least scheme index) (as_retrieved result) read out
+        × Transacts client.old (get_steps least scheme index) (as_retrieved result) read out
         (R.remaining reader.new) client.new }
     ensures record { IfOk result (λ r. r.index ≡ index) }
     ensures sends { OnOk result ((version : ℕ) ×
@@ -106,7 +106,7 @@ fn retrieve<K: Kernel, R: Read, W: Write>(
     ensures transcript { (read : List ℕ) × (out : List ℕ)
         × Consumes (R.remaining reader.old) (R.remaining reader.new) read
         × Appends (W.contents writer.old) (W.contents writer.new) out
-        × Transacts client.old (retrieval least scheme index) result read out
+        × Transacts client.old (get_steps least scheme index) result read out
         (R.remaining reader.new) client.new }
     ensures record { IfOk result (λ event. IsRecordAsked index event) }
     ensures bare { IfOk result (λ _. client.old.state.hint ≡ None) }
@@ -140,7 +140,7 @@ pub fn put<K: Kernel, R: Read, W: Write>(
     ensures transcript { (read : List ℕ) × (out : List ℕ)
         × Consumes (R.remaining reader.old) (R.remaining reader.new) read
         × Appends (W.contents writer.old) (W.contents writer.new) out
-        × Transacts client.old (edition key index bytes.now) (as_done result) read out
+        × Transacts client.old (edit_steps key index bytes.now) (as_done result) read out
         (R.remaining reader.new) client.new }
     ensures number { client.new.state.number ≡ client.old.state.number }
 {
@@ -165,7 +165,7 @@ fn edit_record<K: Kernel, R: Read, W: Write>(
     ensures transcript { (read : List ℕ) × (out : List ℕ)
         × Consumes (R.remaining reader.old) (R.remaining reader.new) read
         × Appends (W.contents writer.old) (W.contents writer.new) out
-        × Transacts client.old (edition key index bytes.now) result read out
+        × Transacts client.old (edit_steps key index bytes.now) result read out
         (R.remaining reader.new) client.new }
     ensures done { IfOk result IsDoneVersion }
 {
@@ -194,7 +194,7 @@ pub fn append<K: Kernel, R: Read, W: Write>(
     ensures transcript { (read : List ℕ) × (out : List ℕ)
         × Consumes (R.remaining reader.old) (R.remaining reader.new) read
         × Appends (W.contents writer.old) (W.contents writer.new) out
-        × Transacts client.old (addition key bytes.now) (as_done result) read out
+        × Transacts client.old (append_steps key bytes.now) (as_done result) read out
         (R.remaining reader.new) client.new }
     ensures number { client.new.state.number ≡ client.old.state.number }
 {
@@ -218,7 +218,7 @@ fn append_record<K: Kernel, R: Read, W: Write>(
     ensures transcript { (read : List ℕ) × (out : List ℕ)
         × Consumes (R.remaining reader.old) (R.remaining reader.new) read
         × Appends (W.contents writer.old) (W.contents writer.new) out
-        × Transacts client.old (addition key bytes.now) result read out
+        × Transacts client.old (append_steps key bytes.now) result read out
         (R.remaining reader.new) client.new }
     ensures done { IfOk result IsDoneVersion }
 {
@@ -245,7 +245,7 @@ pub fn publish<K: Kernel, R: Read, W: Write>(
     ensures transcript { (read : List ℕ) × (out : List ℕ)
         × Consumes (R.remaining reader.old) (R.remaining reader.new) read
         × Appends (W.contents writer.old) (W.contents writer.new) out
-        × Transacts client.old (publication key) (as_done result) read out
+        × Transacts client.old (publish_steps key) (as_done result) read out
         (R.remaining reader.new) client.new }
     ensures number { client.new.state.number ≡ client.old.state.number }
 {
@@ -267,7 +267,7 @@ fn publish_draft<K: Kernel, R: Read, W: Write>(
     ensures transcript { (read : List ℕ) × (out : List ℕ)
         × Consumes (R.remaining reader.old) (R.remaining reader.new) read
         × Appends (W.contents writer.old) (W.contents writer.new) out
-        × Transacts client.old (publication key) result read out
+        × Transacts client.old (publish_steps key) result read out
         (R.remaining reader.new) client.new }
     ensures done { IfOk result IsDoneVersion }
 {

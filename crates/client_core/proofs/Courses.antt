@@ -9,7 +9,7 @@ use Rattle.frame_codec.proofs.Runs.{all_append}
 use Rattle.client_core.specs.declared.state.ClientState.{ClientState}
 use Rattle.client_core.specs.declared.state.ClientFault.{ClientFault}
 use Rattle.client_core.specs.declared.state.Event.{Event}
-use Rattle.client_core.specs.States.{IsState, Keeps}
+use Rattle.client_core.specs.States.{IsState, KeepsNumber}
 use Rattle.client_core.specs.Replies.{reaction_to_reply}
 use Rattle.client_core.specs.Feeding.{Course, start, course_after_reply, course_more, runs, takes_all, sends_of, events_of, fault_of, Gives, Follows}
 
@@ -72,7 +72,7 @@ adds_at state k_state f state2 out out2 events events2 fault e a = let P : Clien
 
 pub next : (c : ClientState) (fs : List Frame) (i : ℕ) (f : Frame) (state state2 : ClientState) (out out2 : List ℕ) (events events2 : List Event) →
     i < length fs → f ≡ get_or fs i f
-    → SoFar c (takes_all c (take i fs)) state out events → Adds state f state2 out out2 events events2 None → Keeps state state2 →
+    → SoFar c (takes_all c (take i fs)) state out events → Adds state f state2 out out2 events events2 None → KeepsNumber state state2 →
     SoFar c (takes_all c (take (i + 1) fs)) state2 out2 events2
 next c fs i f state state2 out out2 events events2 lt e s a keeps =
     let n = course_next c fs i f lt e s.good in

@@ -23,7 +23,7 @@ use Rattle.client_core.specs.declared.state.Event.TheVariants.{Welcomed, Synced,
 use Rattle.client_core.specs.declared.state.ClientFault.{ClientFault}
 use Rattle.client_core.specs.declared.state.Reaction.{Reaction}
 use Rattle.client_core.specs.declared.state.Reaction.TheVariants.{Asks, Reports, Fails}
-use Rattle.client_core.specs.Replies.{AfterReply, reaction_to_reply, is_accepted_welcome, is_part, more_parts, event_read, plan_given, is_answer, is_current, reaction_to_stale, row_numbers, is_delta, moved, is_changes, changed, goes_by_parts}
+use Rattle.client_core.specs.Replies.{AfterReply, reaction_to_reply, is_accepted_welcome, is_part, reaction_to_part, event_read, plan_given, is_answer, is_current, reaction_to_stale, row_numbers, is_delta, reaction_to_delta, is_changes, reaction_to_changes, reaction_to_no_delta}
 use Rattle.client_core.specs.Kinds.{takes_welcome, takes_asked_part, takes_part, answered, takes_answer, takes_stale, takes_delta, takes_changes, takes_no_delta, takes_done, takes_refused}
 use Rattle.client_core.specs.Feeding.{Client, Course, start, course_after_reply, course_more, runs, takes_all, sends_of, events_of, fault_of, failing, ends_with, codec_fault, Follows, BreaksOff, FeedsOpen, FeedsFailed}
 use Rattle.client_core.specs.Endings.{Ends, FirstEventEndsTheCall, FeedingSpendsNoNumber}
@@ -70,7 +70,7 @@ asked_part_reacts : (known : Option ServerInfo) (s : Scheme) (c : ClientState) (
     ReactsTo (Sync s v p) (takes_asked_part known s c v p scheme version part words)
 asked_part_reacts None s c v p scheme version part words = tt
 asked_part_reacts (Some k) s c v p scheme version part words =
-    if_reacts (Sync s v p) (is_part s (hint_len s (shape_known k) k.plan.dimension) v p scheme version part words) (more_parts s k c v p (c.parts ++ words)) _
+    if_reacts (Sync s v p) (is_part s (hint_len s (shape_known k) k.plan.dimension) v p scheme version part words) (reaction_to_part s k c v p (c.parts ++ words)) _
     (λ _. if_reacts (Sync s v p) (length (c.parts ++ words) == hint_len s (shape_known k) k.plan.dimension) _ _ (λ _. (refl, refl)) (next_part s v p (p + 1)))
     tt
 
@@ -150,7 +150,7 @@ stale_reacts Append c version count = tt
 stale_reacts Publish c version count = tt
 
 moved_reacts : (known : Option ServerInfo) (hint : Option Hint) (c : ClientState) (asked since now count : ℕ) (rows : RowList) →
-    ReactsTo (Delta asked) (moved known hint c asked since now count rows)
+    ReactsTo (Delta asked) (reaction_to_delta known hint c asked since now count rows)
 moved_reacts None hint c asked since now count rows = tt
 moved_reacts (Some k) None c asked since now count rows = tt
 moved_reacts (Some k) (Some h) c asked since now count rows =
@@ -168,7 +168,7 @@ delta_reacts Append c since now count rows = tt
 delta_reacts Publish c since now count rows = tt
 
 changed_reacts : (known : Option ServerInfo) (hint : Option Hint) (c : ClientState) (asked since now count : ℕ) (entries : List ℕ) →
-    ReactsTo (Changes asked) (changed known hint c asked since now count entries)
+    ReactsTo (Changes asked) (reaction_to_changes known hint c asked since now count entries)
 changed_reacts None hint c asked since now count entries = tt
 changed_reacts (Some k) None c asked since now count entries = tt
 changed_reacts (Some k) (Some h) c asked since now count entries =
@@ -205,7 +205,7 @@ parts_end_changes asked v (Done version) h = h
 parts_end_changes asked v (Refused code) h = h
 
 by_parts_reacts : (call : Call) (known : Option ServerInfo) (c : ClientState) (version count : ℕ) →
-    ((e : Event) → Ends (Sync Simple version 0) e → Ends call e) → ReactsTo call (goes_by_parts known c version count)
+    ((e : Event) → Ends (Sync Simple version 0) e → Ends call e) → ReactsTo call (reaction_to_no_delta known c version count)
 by_parts_reacts call None c version count ends = tt
 by_parts_reacts call (Some k) c version count ends = if_reacts call (is_current k version count) _ _ (λ _. ends) tt
 

@@ -11,8 +11,8 @@ use Rattle.matrix_u32.proofs.Products.{length-list_of, at-list_of_any}
 use Rattle.digit_pack.specs.Layout.{Shape, IsLayout, is_layout}
 use Rattle.digit_pack.proofs.Layouts.{layout_means}
 use Rattle.digit_pack.proofs.RecordLemmas.{shape_of_layout}
-use Rattle.hint_changes.specs.Changes.{ChangedRecord, LeadTo, changes_between, moved as moved_matrix}
-use Rattle.hint_changes.specs.Entries.{AreEntries, change_in, changes_in, entry_count, entry_len, number_in}
+use Rattle.hint_changes.specs.Changes.{ChangedRecord, LeadTo, changes_between, moved}
+use Rattle.hint_changes.specs.Entries.{AreEntries, change_in, changes_in, entry_count, entry_len, index_in}
 use Rattle.hint_changes.proofs.Between.{between_lead}
 use Rattle.hint_changes.proofs.NetChanges.{changes_lead}
 use Rattle.pir_schemes.specs.declared.plan.Plan.{Plan}
@@ -25,7 +25,7 @@ use Rattle.client_core.specs.declared.state.Call.{Call}
 use Rattle.client_core.specs.declared.state.Call.TheVariants.{Changes}
 use Rattle.client_core.specs.declared.state.Event.TheVariants.{Synced}
 use Rattle.client_core.specs.declared.state.ClientFault.TheVariants.{BadReply}
-use Rattle.client_core.specs.Replies.{faulty, ended, is_current, with_current, are_ascending, are_entries, have_slots, is_changes, hint_with_entries, changed}
+use Rattle.client_core.specs.Replies.{faulty, ended, is_current, with_current, are_ascending, are_entries, have_slots, is_changes, hint_with_entries, reaction_to_changes}
 use Rattle.client_core.specs.Kinds.{takes_changes}
 use Rattle.client_core.specs.Laws.{ChangesMakeTheHint, hint_of_slots}
 use Rattle.client_core.proofs.MovedRows.{ascending_here, ascending_below}
@@ -64,7 +64,7 @@ numbers len bytes = map (λ c. c.index) (changes_in len bytes)
 length-numbers : (len : ℕ) (bytes : List ℕ) → length (numbers len bytes) ≡ entry_count len bytes
 length-numbers len bytes = length-map (changes_in len bytes) (λ c. c.index) ∙ length-list_of (entry_count len bytes) (change_in len bytes)
 
-numbers-at : (len : ℕ) (bytes : List ℕ) (k : ℕ) → k < entry_count len bytes → get_or (numbers len bytes) k 0 ≡ number_in len bytes k
+numbers-at : (len : ℕ) (bytes : List ℕ) (k : ℕ) → k < entry_count len bytes → get_or (numbers len bytes) k 0 ≡ index_in len bytes k
 numbers-at len bytes k lt =
     get_or-map (λ c. c.index) (changes_in len bytes) k (change_in len bytes k) 0
     (omega (arith, length-list_of (entry_count len bytes) (change_in len bytes)))
@@ -82,8 +82,8 @@ entries_mean l bytes h =
       ascending = λ k lt.
           let grows : get_or (numbers len bytes) k 0 < get_or (numbers len bytes) (suc k) 0 =
           ascending_grows 0 l.count (numbers len bytes) k parts.1 (omega (arith, length-numbers len bytes)) in
-          let here : get_or (numbers len bytes) k 0 ≡ number_in len bytes k = numbers-at len bytes k (omega arith) in
-          let next : get_or (numbers len bytes) (suc k) 0 ≡ number_in len bytes (k + 1) =
+          let here : get_or (numbers len bytes) k 0 ≡ index_in len bytes k = numbers-at len bytes k (omega arith) in
+          let next : get_or (numbers len bytes) (suc k) 0 ≡ index_in len bytes (k + 1) =
           ap (λ (n : ℕ). get_or (numbers len bytes) n 0) (sym (add-one k)) ∙ numbers-at len bytes (k + 1) lt in
           omega (arith, grows, here, next);
     }
@@ -95,11 +95,11 @@ entries_pass l bytes e =
     let count : length (numbers len bytes) ≡ entry_count len bytes = length-numbers len bytes in
     and_from (length bytes % entry_len len == 0) (are_ascending 0 l.count (numbers len bytes)) (eq-eqb (length bytes % entry_len len) 0 e.whole)
     (they_ascend 0 l.count (numbers len bytes)
-    (λ j lt. let here : get_or (numbers len bytes) j 0 ≡ number_in len bytes j = numbers-at len bytes j (omega (arith, count)) in
+    (λ j lt. let here : get_or (numbers len bytes) j 0 ≡ index_in len bytes j = numbers-at len bytes j (omega (arith, count)) in
     omega (arith, here, e.inside j (omega (arith, count))))
     (λ j lt.
-    let here : get_or (numbers len bytes) j 0 ≡ number_in len bytes j = numbers-at len bytes j (omega (arith, count)) in
-    let next : get_or (numbers len bytes) (suc j) 0 ≡ number_in len bytes (j + 1) =
+    let here : get_or (numbers len bytes) j 0 ≡ index_in len bytes j = numbers-at len bytes j (omega (arith, count)) in
+    let next : get_or (numbers len bytes) (suc j) 0 ≡ index_in len bytes (j + 1) =
     ap (λ (n : ℕ). get_or (numbers len bytes) n 0) (sym (add-one j)) ∙ numbers-at len bytes (j + 1) (omega (arith, count)) in
     omega (arith, here, next, e.ascending j (omega (arith, count))))
     (λ lt. omega arith))
@@ -211,8 +211,8 @@ pub changes_taken : (c : ClientState) (k : ServerInfo) (h : Hint) (asked since n
     ≡ ended (record c { known = Some (with_current k now count); hint = Some (hint_with_entries k.plan h now count entries) }) (Synced Simple now)
 changes_taken c k h asked since now count entries call known held is =
     ap (λ (x : Call). takes_changes x c since now count entries) call
-    ∙ ap (λ (x : Option ServerInfo). changed x c.hint c asked since now count entries) known
-    ∙ ap (λ (x : Option Hint). changed (Some k) x c asked since now count entries) held
+    ∙ ap (λ (x : Option ServerInfo). reaction_to_changes x c.hint c asked since now count entries) known
+    ∙ ap (λ (x : Option Hint). reaction_to_changes (Some k) x c asked since now count entries) held
     ∙ ap (λ (x : Bool). cond x
     (ended (record c { known = Some (with_current k now count); hint = Some (hint_with_entries k.plan h now count entries) }) (Synced Simple now))
     (faulty c BadReply)) is
@@ -223,9 +223,9 @@ changes_make_it c k h since now count entries before after known held asked is s
     let a1 : WordMatrix = first_public l k.plan.dimension k.plan.seed in
     let ok : IsLayout l = current_layout k now count (changes_asked k since since now count entries is).current in
     let lead : LeadTo l (changes_between before after) before after = between_lead l before after long room in
-    let matrix : moved_matrix l a1 (changes_in k.plan.record_len entries) h.matrix ≡ hint_of_slots k.plan count after =
-    ap (λ (cs : List ChangedRecord). moved_matrix l a1 cs h.matrix) says
-    ∙ ap (moved_matrix l a1 (changes_between before after)) made
+    let matrix : moved l a1 (changes_in k.plan.record_len entries) h.matrix ≡ hint_of_slots k.plan count after =
+    ap (λ (cs : List ChangedRecord). moved l a1 cs h.matrix) says
+    ∙ ap (moved l a1 (changes_between before after)) made
     ∙ changes_lead l (changes_between before after) before after a1 (shape_of_layout l ok) (omega arith) lead in
     changes_taken c k h since since now count entries asked known held is
     ∙ ap (λ (x : WordMatrix). ended (record c { known = Some (with_current k now count); hint = Some (record h { version = now; matrix = x }) })

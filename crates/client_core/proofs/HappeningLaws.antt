@@ -17,7 +17,7 @@ use Rattle.client_core.specs.Calls.{ClientCall, call_frame, Accepts, Refuses}
 use Rattle.client_core.specs.Replies.{reaction_to_reply}
 use Rattle.client_core.specs.Feeding.{Client, Course, start, course_after_reply, course_more, runs, takes_all, sends_of, events_of, fault_of, failing, ends_with, Follows, BreaksOff, FeedsClient, FeedsOpen, FeedsFailed}
 use Rattle.client_core.specs.Laws.{Happening, Accepted, TurnedDown, Lacking, Replied as Reply, Failing, after}
-use Rattle.client_core.specs.Shapes.{frames_at, frames, after_all, events_at, reported_events, taken_of, failure_at, happenings_of, IsFed, Happened, NothingHappened, ClientsHappen}
+use Rattle.client_core.specs.Shapes.{frames_at, frames, after_all, events_at, reported_events, taken_of, failure_at, happenings_of, IsReplyOrFailure, Happened, NothingHappened, ClientsHappen}
 use Rattle.client_core.proofs.Courses.{fault_stays}
 
 -- ---- more happenings
@@ -42,7 +42,7 @@ events_append c (h ∷ hs) gs =
 
 -- a course went through these happenings; all of its replies, where none was bad
 record Went (k end : Course) (fs : List Frame) (hs : List Happening) : Type 0 where
-  fed : AllByRecursion IsFed hs
+  fed : AllByRecursion IsReplyOrFailure hs
   sends : end.sends ≡ k.sends ++ frames k.state hs
   events : end.events ≡ k.events ++ reported_events k.state hs
   state : end.state ≡ after_all k.state hs
@@ -104,7 +104,7 @@ replies_happen c fs none =
 
 -- what a course of happenings gave
 record Gone (c : ClientState) (end : Course) (hs : List Happening) : Type 0 where
-  fed : AllByRecursion IsFed hs
+  fed : AllByRecursion IsReplyOrFailure hs
   sends : end.sends ≡ frames c hs
   events : end.events ≡ reported_events c hs
   state : end.state ≡ after_all c hs
@@ -112,7 +112,7 @@ record Gone (c : ClientState) (end : Course) (hs : List Happening) : Type 0 wher
 module _ (c : ClientState) (k : Course) (hs : List Happening) (g : Gone c k hs) where
   fails_after : (f : ClientFault) → Gone c (record k { state = record k.state { failed = true }; fault = Some f }) (hs ++ Failing ∷ [])
   fails_after f = record {
-    fed = all_append IsFed hs (Failing ∷ []) g.fed (tt, tt);
+    fed = all_append IsReplyOrFailure hs (Failing ∷ []) g.fed (tt, tt);
     sends = g.sends ∙ sym (frames_append c hs (Failing ∷ []) ∙ append-nil (frames c hs));
     events = g.events ∙ sym (events_append c hs (Failing ∷ []) ∙ append-nil (reported_events c hs));
     state = ap (λ (y : ClientState). record y { failed = true }) g.state ∙ sym (after_append c hs (Failing ∷ []));

@@ -22,7 +22,7 @@ use Rattle.client_core.specs.declared.state.Call.TheVariants.{Idle, Sync}
 use Rattle.client_core.specs.declared.state.Event.{Event}
 use Rattle.client_core.specs.declared.state.Event.TheVariants.{Synced, Stale, Refused}
 use Rattle.client_core.specs.declared.state.Reaction.TheVariants.{Asks, Reports, Fails}
-use Rattle.client_core.specs.Replies.{AfterReply, plan_given, reaction_to_reply, faulty, ended, is_part, more_parts, hint_made, reaction_to_stale, is_current, with_current, is_delta, row_numbers, with_rows, hint_with_rows, moved}
+use Rattle.client_core.specs.Replies.{AfterReply, plan_given, reaction_to_reply, faulty, ended, is_part, reaction_to_part, hint_made, reaction_to_stale, is_current, with_current, is_delta, row_numbers, with_rows_replaced, hint_with_rows, reaction_to_delta}
 use Rattle.client_core.specs.Kinds.{takes_asked_part, takes_part, takes_welcome, takes_answer, takes_stale, takes_delta, takes_changes, takes_no_delta, takes_done, takes_refused}
 use Rattle.client_core.specs.Feeding.{Course, course_after_reply, runs}
 use Rattle.client_core.specs.Laws.{ArePartsFrom, ArePartsOf, IsMadeOfParts, SyncedHintIsMadeOfParts, PartsOfAHintMakeIt, DeltaMakesTheHint, rows_of}
@@ -59,19 +59,19 @@ part_leads : (s : Scheme) (k : ServerInfo) (c : ClientState) (v p scheme version
     (length (c.parts ++ words) == hint_len s (shape_known k) k.plan.dimension) ≡ w → Leads s k c v p (frame.HintPart scheme version part words)
 part_leads s k c v p scheme version part words e false h w whole =
     bad_part s k c v p (frame.HintPart scheme version part words) (e
-    ∙ ap (λ (x : Bool). cond x (more_parts s k c v p (c.parts ++ words)) (faulty c BadReply)) h)
+    ∙ ap (λ (x : Bool). cond x (reaction_to_part s k c v p (c.parts ++ words)) (faulty c BadReply)) h)
 part_leads s k c v p scheme version part words e true h w whole =
     let a = and_parts (scheme == scheme_byte s) ((version == v) && ((part == p) && (length words == part_len (hint_len s (shape_known k) k.plan.dimension) p))) h in
     let b = and_parts (version == v) ((part == p) && (length words == part_len (hint_len s (shape_known k) k.plan.dimension) p)) a.1 in
     let d = and_parts (part == p) (length words == part_len (hint_len s (shape_known k) k.plan.dimension) p) b.1 in
     let is = part_is s scheme version part v p words (eqb-true scheme (scheme_byte s) a.0) (eqb-true version v b.0) (eqb-true part p d.0) in
-    let t : reaction_to_reply c (frame.HintPart scheme version part words) ≡ more_parts s k c v p (c.parts ++ words) = e
-    ∙ ap (λ (x : Bool). cond x (more_parts s k c v p (c.parts ++ words)) (faulty c BadReply)) h in
+    let t : reaction_to_reply c (frame.HintPart scheme version part words) ≡ reaction_to_part s k c v p (c.parts ++ words) = e
+    ∙ ap (λ (x : Bool). cond x (reaction_to_part s k c v p (c.parts ++ words)) (faulty c BadReply)) h in
     go w whole is t
   where
     go : (w : Bool) → (length (c.parts ++ words) == hint_len s (shape_known k) k.plan.dimension) ≡ w →
         frame.HintPart scheme version part words ≡ frame.HintPart (scheme_byte s) v p words
-        → reaction_to_reply c (frame.HintPart scheme version part words) ≡ more_parts s k c v p (c.parts ++ words) →
+        → reaction_to_reply c (frame.HintPart scheme version part words) ≡ reaction_to_part s k c v p (c.parts ++ words) →
         Leads s k c v p (frame.HintPart scheme version part words)
     go true whole is t = Whole words is (eqb-true (length (c.parts ++ words)) (hint_len s (shape_known k) k.plan.dimension) whole) (t ∙ ap (λ (x : Bool). cond x
         (ended (record c { hint = Some (hint_made s k v (c.parts ++ words)); parts = [] }) (Synced s v))
@@ -296,11 +296,11 @@ delta_makes_it c k h since now count hint numbers known held asked is whole othe
     let sent : RowList = row_list hint.cols (rows_of hint numbers) in
     let good : is_delta k since since now count hint.cols (row_numbers sent) ≡ true =
     ap (λ (x : List ℕ). is_delta k since since now count hint.cols x) (numbers_sent hint numbers) ∙ is in
-    let made : with_rows h.matrix (rows_in sent) ≡ hint =
-    ap (λ (x : List Row). with_rows h.matrix x) (rows_sent hint numbers) ∙ named_rows_make_it h.matrix hint numbers whole other rows cols same in
+    let made : with_rows_replaced h.matrix (rows_in sent) ≡ hint =
+    ap (λ (x : List Row). with_rows_replaced h.matrix x) (rows_sent hint numbers) ∙ named_rows_make_it h.matrix hint numbers whole other rows cols same in
     ap (λ (x : Call). takes_delta x c since now count sent) asked
-    ∙ ap (λ (x : Option ServerInfo). moved x c.hint c since since now count sent) known
-    ∙ ap (λ (x : Option Hint). moved (Some k) x c since since now count sent) held
+    ∙ ap (λ (x : Option ServerInfo). reaction_to_delta x c.hint c since since now count sent) known
+    ∙ ap (λ (x : Option Hint). reaction_to_delta (Some k) x c since since now count sent) held
     ∙ ap (λ (x : Bool). cond x (ended (record c { known = Some (with_current k now count); hint = Some (hint_with_rows h now sent) }) (Synced Simple now))
     (faulty c BadReply)) good
     ∙ ap (λ (x : WordMatrix). ended (record c { known = Some (with_current k now count); hint = Some (record h { version = now; matrix = x }) })

@@ -22,22 +22,22 @@ use Rattle.client_core.specs.declared.state.Call.{Call}
 use Rattle.client_core.specs.declared.state.Call.TheVariants.{Idle, Hello, Sync, Delta, Changes, Ask, Edit, Append, Publish}
 use Rattle.client_core.specs.declared.state.Event.TheVariants.{Welcomed}
 use Rattle.client_core.specs.declared.state.ClientFault.TheVariants.{BadWelcome, BadReply}
-use Rattle.client_core.specs.States.{IsState, IsKnown, shape_known, Keeps, KnownFits, HintFits, CallFits, is_layout}
-use Rattle.client_core.specs.Replies.{AfterReply, plan_given, reaction_to_reply, faulty, ended, is_accepted_welcome, is_part, more_parts, is_answer, is_current, with_current, reaction_to_stale, are_ascending, row_numbers, is_delta, moved, are_entries, have_slots, is_changes, changed, goes_by_parts}
+use Rattle.client_core.specs.States.{IsState, IsKnown, shape_known, KeepsNumber, KnownFits, HintFits, CallFits, is_layout}
+use Rattle.client_core.specs.Replies.{AfterReply, plan_given, reaction_to_reply, faulty, ended, is_accepted_welcome, is_part, reaction_to_part, is_answer, is_current, with_current, reaction_to_stale, are_ascending, row_numbers, is_delta, reaction_to_delta, are_entries, have_slots, is_changes, reaction_to_changes, reaction_to_no_delta}
 use Rattle.client_core.specs.Kinds.{takes_welcome, takes_asked_part, takes_part, answered, takes_answer, takes_stale, takes_delta, takes_changes, takes_no_delta, takes_done, takes_refused}
 use Rattle.client_core.proofs.MovedRows.{with_rows-rows, with_rows-cols}
 use Rattle.digit_pack.proofs.Layouts.{layout_means}
 
-pub faulty_keeps : (c : ClientState) → IsState c → Keeps c (record c { failed = true })
+pub faulty_keeps : (c : ClientState) → IsState c → KeepsNumber c (record c { failed = true })
 faulty_keeps c s = record { good = record { number = s.number; known = s.known; hint = s.hint; call = s.call; delta = s.delta }; number = refl }
 
-pub ended_keeps : (c : ClientState) → IsState c → Keeps c (record c { call = Idle })
+pub ended_keeps : (c : ClientState) → IsState c → KeepsNumber c (record c { call = Idle })
 ended_keeps c s = record { good = record { number = s.number; known = s.known; hint = s.hint; call = tt; delta = tt }; number = refl }
 
-emptied_keeps : (c : ClientState) → IsState c → Keeps c (record c { parts = []; call = Idle })
+emptied_keeps : (c : ClientState) → IsState c → KeepsNumber c (record c { parts = []; call = Idle })
 emptied_keeps c s = record { good = record { number = s.number; known = s.known; hint = s.hint; call = tt; delta = tt }; number = refl }
 
-if_keeps : (c : ClientState) (b : Bool) (x y : AfterReply) → (b ≡ true → Keeps c x.state) → (b ≡ false → Keeps c y.state) → Keeps c (cond b x y).state
+if_keeps : (c : ClientState) (b : Bool) (x y : AfterReply) → (b ≡ true → KeepsNumber c x.state) → (b ≡ false → KeepsNumber c y.state) → KeepsNumber c (cond b x y).state
 if_keeps c true x y p q = p refl
 if_keeps c false x y p q = q refl
 
@@ -63,7 +63,7 @@ welcome_known profile plan count version h =
     record { form = a.0; layout = layout_means (shape_at plan count) b.0; low = leb-true 1 plan.dimension e.0; high = leb-true plan.dimension 1024 e.1 }
 
 welcomed_keeps : (c : ClientState) (plan : Plan) (count version : ℕ) → IsState c → CallFits Hello c.known c.parts
-    → is_accepted_welcome c.profile plan count version ≡ true → Keeps c (record c { known = Some (reported version plan count); call = Idle })
+    → is_accepted_welcome c.profile plan count version ≡ true → KeepsNumber c (record c { known = Some (reported version plan count); call = Idle })
 welcomed_keeps c plan count version s fits is = record {
   good = record {
     number = s.number;
@@ -76,7 +76,7 @@ welcomed_keeps c plan count version s fits is = record {
 }
 
 welcome_keeps : (call : Call) (c : ClientState) (plan : Plan) (count version : ℕ) → IsState c → CallFits call c.known c.parts →
-    Keeps c (takes_welcome call c plan count version).state
+    KeepsNumber c (takes_welcome call c plan count version).state
 unfolding reported
 welcome_keeps Idle c plan count version s fits = faulty_keeps c s
 welcome_keeps Hello c plan count version s fits =
@@ -114,7 +114,7 @@ part_fits total p parts words e le len ne =
 
 more_keeps : (x : Scheme) (k : ServerInfo) (c : ClientState) (v p : ℕ) (words : List ℕ) → c.known ≡ Some k → IsState c → length c.parts ≡ 65536 * p
     → length c.parts ≤ hint_len x (shape_known k) k.plan.dimension → length words ≡ part_len (hint_len x (shape_known k) k.plan.dimension) p
-    → Keeps c (more_parts x k c v p (c.parts ++ words)).state
+    → KeepsNumber c (reaction_to_part x k c v p (c.parts ++ words)).state
 more_keeps x k c v p words e s len le is =
     if_keeps c (length (c.parts ++ words) == hint_len x (shape_known k) k.plan.dimension) _ _
     (λ whole. record { good = record { number = s.number; known = s.known; hint = rw e (refl, refl); call = tt; delta = tt }; number = refl })
@@ -132,15 +132,15 @@ more_keeps x k c v p words e s len le is =
 
 asked_part_keeps : (known : Option ServerInfo) (x : Scheme) (c : ClientState) (v p scheme version part : ℕ) (words : List ℕ) → c.known ≡ known → IsState c →
     CallFits (Sync x v p) known c.parts
-    → Keeps c (takes_asked_part known x c v p scheme version part words).state
+    → KeepsNumber c (takes_asked_part known x c v p scheme version part words).state
 asked_part_keeps None x c v p scheme version part words e s fits = faulty_keeps c s
 asked_part_keeps (Some k) x c v p scheme version part words e s fits =
-    if_keeps c (is_part x (hint_len x (shape_known k) k.plan.dimension) v p scheme version part words) (more_parts x k c v p (c.parts ++ words)) (faulty c BadReply)
+    if_keeps c (is_part x (hint_len x (shape_known k) k.plan.dimension) v p scheme version part words) (reaction_to_part x k c v p (c.parts ++ words)) (faulty c BadReply)
     (λ is. more_keeps x k c v p words e s fits.0 fits.1 (is_part_len x (hint_len x (shape_known k) k.plan.dimension) v p scheme version part words is))
     (λ _. faulty_keeps c s)
 
 part_keeps : (call : Call) (c : ClientState) (scheme version part : ℕ) (words : List ℕ) → IsState c → CallFits call c.known c.parts →
-    Keeps c (takes_part call c scheme version part words).state
+    KeepsNumber c (takes_part call c scheme version part words).state
 part_keeps Idle c scheme version part words s fits = faulty_keeps c s
 part_keeps Hello c scheme version part words s fits = faulty_keeps c s
 part_keeps (Sync x v p) c scheme version part words s fits = asked_part_keeps c.known x c v p scheme version part words refl s fits
@@ -154,13 +154,13 @@ part_keeps Publish c scheme version part words s fits = faulty_keeps c s
 -- ---- Answer
 
 answered_keeps : (known : Option ServerInfo) (hint : Option Hint) (c : ClientState) (i v m scheme version : ℕ) (words : List ℕ) → IsState c →
-    Keeps c (answered known hint c i v m scheme version words).state
+    KeepsNumber c (answered known hint c i v m scheme version words).state
 answered_keeps None hint c i v m scheme version words s = faulty_keeps c s
 answered_keeps (Some k) None c i v m scheme version words s = faulty_keeps c s
 answered_keeps (Some k) (Some h) c i v m scheme version words s =
     if_keeps c (is_answer h.scheme k v scheme version words) _ (faulty c BadReply) (λ _. ended_keeps c s) (λ _. faulty_keeps c s)
 
-answer_keeps : (call : Call) (c : ClientState) (scheme version : ℕ) (words : List ℕ) → IsState c → Keeps c (takes_answer call c scheme version words).state
+answer_keeps : (call : Call) (c : ClientState) (scheme version : ℕ) (words : List ℕ) → IsState c → KeepsNumber c (takes_answer call c scheme version words).state
 answer_keeps Idle c scheme version words s = faulty_keeps c s
 answer_keeps Hello c scheme version words s = faulty_keeps c s
 answer_keeps (Sync x v p) c scheme version words s = faulty_keeps c s
@@ -192,7 +192,7 @@ stale_known : (k : ServerInfo) (asked version count : ℕ) → IsKnown k → (no
 stale_known k asked version count old h = current_known k version count old (and_parts (not (version == asked)) (is_current k version count) h).1
 
 staled_keeps : (known : Option ServerInfo) (c after : ClientState) (asked version count : ℕ) → c.known ≡ known → IsState c → after.number ≡ c.number →
-    after.hint ≡ c.hint → Keeps c (reaction_to_stale known after c asked version count).state
+    after.hint ≡ c.hint → KeepsNumber c (reaction_to_stale known after c asked version count).state
 staled_keeps None c after asked version count e s en eh = faulty_keeps c s
 staled_keeps (Some k) c after asked version count e s en eh =
     let known : IsKnown k = let P : Option ServerInfo → Type 0 = KnownFits in subst P e s.known in
@@ -211,7 +211,7 @@ staled_keeps (Some k) c after asked version count e s en eh =
     })
     (λ _. faulty_keeps c s)
 
-stale_keeps : (call : Call) (c : ClientState) (version count : ℕ) → IsState c → Keeps c (takes_stale call c version count).state
+stale_keeps : (call : Call) (c : ClientState) (version count : ℕ) → IsState c → KeepsNumber c (takes_stale call c version count).state
 stale_keeps Idle c version count s = faulty_keeps c s
 stale_keeps Hello c version count s = faulty_keeps c s
 stale_keeps (Sync x v p) c version count s = staled_keeps c.known c (record c { parts = [] }) v version count refl s refl refl
@@ -225,7 +225,7 @@ stale_keeps Publish c version count s = faulty_keeps c s
 -- ---- Delta, Changes and NoDelta
 
 moved_keeps : (known : Option ServerInfo) (hint : Option Hint) (c : ClientState) (asked since now count : ℕ) (rows : RowList) → c.known ≡ known →
-    c.hint ≡ hint → IsState c → Keeps c (moved known hint c asked since now count rows).state
+    c.hint ≡ hint → IsState c → KeepsNumber c (reaction_to_delta known hint c asked since now count rows).state
 moved_keeps None hint c asked since now count rows e eh s = faulty_keeps c s
 moved_keeps (Some k) None c asked since now count rows e eh s = faulty_keeps c s
 moved_keeps (Some k) (Some h) c asked since now count rows e eh s =
@@ -254,7 +254,7 @@ moved_keeps (Some k) (Some h) c asked since now count rows e eh s =
         (and_parts (is_current k now count) ((dimension == k.plan.dimension) && (nat_le (length numbers) 1024
         && are_ascending 0 (digit_rows (shape_known k)) numbers)) a.1).0
 
-delta_keeps : (call : Call) (c : ClientState) (since now count : ℕ) (rows : RowList) → IsState c → Keeps c (takes_delta call c since now count rows).state
+delta_keeps : (call : Call) (c : ClientState) (since now count : ℕ) (rows : RowList) → IsState c → KeepsNumber c (takes_delta call c since now count rows).state
 delta_keeps Idle c since now count rows s = faulty_keeps c s
 delta_keeps Hello c since now count rows s = faulty_keeps c s
 delta_keeps (Sync x v p) c since now count rows s = faulty_keeps c s
@@ -273,7 +273,7 @@ changes_current k asked since now count entries h =
     (and_parts (is_current k now count) (are_entries (shape_at k.plan count) entries && have_slots k.plan entries) a.1).0
 
 changed_keeps : (known : Option ServerInfo) (hint : Option Hint) (c : ClientState) (asked since now count : ℕ) (entries : List ℕ) → c.known ≡ known →
-    c.hint ≡ hint → IsState c → Keeps c (changed known hint c asked since now count entries).state
+    c.hint ≡ hint → IsState c → KeepsNumber c (reaction_to_changes known hint c asked since now count entries).state
 changed_keeps None hint c asked since now count entries e eh s = faulty_keeps c s
 changed_keeps (Some k) None c asked since now count entries e eh s = faulty_keeps c s
 changed_keeps (Some k) (Some h) c asked since now count entries e eh s =
@@ -295,7 +295,7 @@ changed_keeps (Some k) (Some h) c asked since now count entries e eh s =
     (λ _. faulty_keeps c s)
 
 changes_keep : (call : Call) (c : ClientState) (since now count : ℕ) (entries : List ℕ) → IsState c →
-    Keeps c (takes_changes call c since now count entries).state
+    KeepsNumber c (takes_changes call c since now count entries).state
 changes_keep Idle c since now count entries s = faulty_keeps c s
 changes_keep Hello c since now count entries s = faulty_keeps c s
 changes_keep (Sync x v p) c since now count entries s = faulty_keeps c s
@@ -307,7 +307,7 @@ changes_keep Append c since now count entries s = faulty_keeps c s
 changes_keep Publish c since now count entries s = faulty_keeps c s
 
 by_parts_keeps : (known : Option ServerInfo) (c : ClientState) (version count : ℕ) → c.known ≡ known → IsState c →
-    Keeps c (goes_by_parts known c version count).state
+    KeepsNumber c (reaction_to_no_delta known c version count).state
 by_parts_keeps None c version count e s = faulty_keeps c s
 by_parts_keeps (Some k) c version count e s =
     let known : IsKnown k = let P : Option ServerInfo → Type 0 = KnownFits in subst P e s.known in
@@ -318,7 +318,7 @@ by_parts_keeps (Some k) c version count e s =
     })
     (λ _. faulty_keeps c s)
 
-no_delta_keeps : (call : Call) (c : ClientState) (version count : ℕ) → IsState c → Keeps c (takes_no_delta call c version count).state
+no_delta_keeps : (call : Call) (c : ClientState) (version count : ℕ) → IsState c → KeepsNumber c (takes_no_delta call c version count).state
 no_delta_keeps Idle c version count s = faulty_keeps c s
 no_delta_keeps Hello c version count s = faulty_keeps c s
 no_delta_keeps (Sync x v p) c version count s = faulty_keeps c s
@@ -331,7 +331,7 @@ no_delta_keeps Publish c version count s = faulty_keeps c s
 
 -- ---- Done and Refused
 
-done_keeps : (call : Call) (c : ClientState) (version : ℕ) → IsState c → Keeps c (takes_done call c version).state
+done_keeps : (call : Call) (c : ClientState) (version : ℕ) → IsState c → KeepsNumber c (takes_done call c version).state
 done_keeps Idle c version s = faulty_keeps c s
 done_keeps Hello c version s = faulty_keeps c s
 done_keeps (Sync x v p) c version s = faulty_keeps c s
@@ -342,7 +342,7 @@ done_keeps Edit c version s = ended_keeps c s
 done_keeps Append c version s = ended_keeps c s
 done_keeps Publish c version s = ended_keeps c s
 
-refused_keeps : (call : Call) (c : ClientState) (code : ℕ) → IsState c → Keeps c (takes_refused call c code).state
+refused_keeps : (call : Call) (c : ClientState) (code : ℕ) → IsState c → KeepsNumber c (takes_refused call c code).state
 refused_keeps Idle c code s = faulty_keeps c s
 refused_keeps Hello c code s = ended_keeps c s
 refused_keeps (Sync x v p) c code s = emptied_keeps c s
@@ -355,7 +355,7 @@ refused_keeps Publish c code s = ended_keeps c s
 
 -- ---- any frame
 
-pub takes_keeps : (c : ClientState) (f : Frame) → IsState c → Keeps c (reaction_to_reply c f).state
+pub takes_keeps : (c : ClientState) (f : Frame) → IsState c → KeepsNumber c (reaction_to_reply c f).state
 takes_keeps c (frame.Welcome profile width record_len groups count version dimension seed) s =
     welcome_keeps c.call c (plan_given profile width record_len groups dimension seed) count version s s.call
 takes_keeps c (frame.HintPart scheme version part words) s = part_keeps c.call c scheme version part words s s.call

@@ -14,35 +14,35 @@ use Rattle.frame_codec.specs.Rows.{Row, RowList, row_list, row_count, row_at, ro
 use Rattle.digit_pack.specs.Layout.{digit_rows}
 use Rattle.client_core.specs.States.{shape_known}
 use Rattle.client_core.specs.declared.state.ServerInfo.{ServerInfo}
-use Rattle.client_core.specs.Replies.{is_current, are_ascending, row_numbers, is_delta, with_rows}
+use Rattle.client_core.specs.Replies.{is_current, are_ascending, row_numbers, is_delta, with_rows_replaced}
 use Rattle.client_core.specs.Laws.{rows_of}
 
 -- ---- the sizes stay
 
-pub with_rows-rows : (m : WordMatrix) (rs : List Row) → (with_rows m rs).rows ≡ m.rows
-unfolding with_rows
+pub with_rows-rows : (m : WordMatrix) (rs : List Row) → (with_rows_replaced m rs).rows ≡ m.rows
+unfolding with_rows_replaced
 with_rows-rows m [] = refl
 with_rows-rows m (r ∷ rs) = with_rows-rows (with_row m r.number r.words) rs
 
-pub with_rows-cols : (m : WordMatrix) (rs : List Row) → (with_rows m rs).cols ≡ m.cols
-unfolding with_rows
+pub with_rows-cols : (m : WordMatrix) (rs : List Row) → (with_rows_replaced m rs).cols ≡ m.cols
+unfolding with_rows_replaced
 with_rows-cols m [] = refl
 with_rows-cols m (r ∷ rs) = with_rows-cols (with_row m r.number r.words) rs
 
 -- ---- one row more
 
-with_rows-append : (m : WordMatrix) (rs : List Row) (r : Row) → with_rows m (rs ++ r ∷ []) ≡ with_row (with_rows m rs) r.number r.words
-unfolding with_rows
+with_rows-append : (m : WordMatrix) (rs : List Row) (r : Row) → with_rows_replaced m (rs ++ r ∷ []) ≡ with_row (with_rows_replaced m rs) r.number r.words
+unfolding with_rows_replaced
 with_rows-append m [] r = refl
 with_rows-append m (x ∷ rs) r = with_rows-append (with_row m x.number x.words) rs r
 
-pub with_rows-none : (m : WordMatrix) → m ≡ with_rows m []
-unfolding with_rows
+pub with_rows-none : (m : WordMatrix) → m ≡ with_rows_replaced m []
+unfolding with_rows_replaced
 with_rows-none m = refl
 
 pub with_rows-more : (m : WordMatrix) (rs : List Row) (j : ℕ) (d : Row) → j < length rs →
-    with_rows m (take (j + 1) rs) ≡ with_row (with_rows m (take j rs)) (get_or rs j d).number (get_or rs j d).words
-with_rows-more m rs j d lt = ap (λ (x : List Row). with_rows m x) (take_more rs j d lt) ∙ with_rows-append m (take j rs) (get_or rs j d)
+    with_rows_replaced m (take (j + 1) rs) ≡ with_row (with_rows_replaced m (take j rs)) (get_or rs j d).number (get_or rs j d).words
+with_rows-more m rs j d lt = ap (λ (x : List Row). with_rows_replaced m x) (take_more rs j d lt) ∙ with_rows-append m (take j rs) (get_or rs j d)
 
 -- ---- the numbers of rows, and their order
 
@@ -110,13 +110,13 @@ rows_below limit rows j h lt = rw (← numbers-at rows j lt) (ascending_below 0 
 
 -- one row more of those in a list, and all of them
 pub with_rows-next : (m : WordMatrix) (rows : RowList) (j : ℕ) → j < row_count rows →
-    with_rows m (take (j + 1) (rows_in rows)) ≡ with_row (with_rows m (take j (rows_in rows))) (row_at rows j).number (row_at rows j).words
+    with_rows_replaced m (take (j + 1) (rows_in rows)) ≡ with_row (with_rows_replaced m (take j (rows_in rows))) (row_at rows j).number (row_at rows j).words
 with_rows-next m rows j lt =
     with_rows-more m (rows_in rows) j (row_at rows j) (omega (arith, length-rows_in rows))
-    ∙ ap (λ (r : Row). with_row (with_rows m (take j (rows_in rows))) r.number r.words) (rows_in-at rows j (row_at rows j) lt)
+    ∙ ap (λ (r : Row). with_row (with_rows_replaced m (take j (rows_in rows))) r.number r.words) (rows_in-at rows j (row_at rows j) lt)
 
-pub with_rows-all : (m : WordMatrix) (rows : RowList) (j : ℕ) → row_count rows ≤ j → with_rows m (take j (rows_in rows)) ≡ with_rows m (rows_in rows)
-with_rows-all m rows j le = ap (λ (x : List Row). with_rows m x) (take_all j (rows_in rows) (omega (arith, length-rows_in rows)))
+pub with_rows-all : (m : WordMatrix) (rows : RowList) (j : ℕ) → row_count rows ≤ j → with_rows_replaced m (take j (rows_in rows)) ≡ with_rows_replaced m (rows_in rows)
+with_rows-all m rows j le = ap (λ (x : List Row). with_rows_replaced m x) (take_all j (rows_in rows) (omega (arith, length-rows_in rows)))
 
 -- ---- what makes a Delta one that was asked for
 
@@ -220,8 +220,8 @@ rows_sent m is = rows_in_list m.cols (rows_of m is) (rows_have_length m is)
 pub numbers_sent : (m : WordMatrix) (is : List ℕ) → row_numbers (row_list m.cols (rows_of m is)) ≡ is
 numbers_sent m is = ap (λ (x : List Row). map (λ r. r.number) x) (rows_sent m is) ∙ numbers_of_rows m is
 
-pub with_rows-whole : (m : WordMatrix) (rs : List Row) → IsWhole m → IsWhole (with_rows m rs)
-unfolding with_rows
+pub with_rows-whole : (m : WordMatrix) (rs : List Row) → IsWhole m → IsWhole (with_rows_replaced m rs)
+unfolding with_rows_replaced
 with_rows-whole m [] whole = whole
 with_rows-whole m (r ∷ rs) whole = with_rows-whole (with_row m r.number r.words) rs (length-list_of (m.rows * m.cols) _)
 
@@ -231,8 +231,8 @@ first_or_other i x is (zero, lt, e) = inl (sym e)
 first_or_other i x is (suc k, lt, e) = inr (k, omega arith, e)
 
 named_entry : (new m : WordMatrix) (is : List ℕ) (i j : ℕ) → m.rows ≡ new.rows → m.cols ≡ new.cols → i < m.rows → j < m.cols →
-    Contains is i ⊎ (entry m i j ≡ entry new i j) → entry (with_rows m (rows_of new is)) i j ≡ entry new i j
-unfolding with_rows
+    Contains is i ⊎ (entry m i j ≡ entry new i j) → entry (with_rows_replaced m (rows_of new is)) i j ≡ entry new i j
+unfolding with_rows_replaced
 named_entry new m [] i j r c p q (inl (k, lt, e)) = absurd (omega arith)
 named_entry new m [] i j r c p q (inr e) = e
 named_entry new m (x ∷ is) i j r c p q h =
@@ -250,9 +250,9 @@ named_entry new m (x ∷ is) i j r c p q h =
     kept other (inr e) = inr (with_row-other m x i j (row new x) p other q ∙ e)
 
 pub named_rows_make_it : (old new : WordMatrix) (is : List ℕ) → IsWhole old → IsWhole new → old.rows ≡ new.rows → old.cols ≡ new.cols →
-    ((i : ℕ) → i < new.rows → Contains is i ⊎ (row old i ≡ row new i)) → with_rows old (rows_of new is) ≡ new
+    ((i : ℕ) → i < new.rows → Contains is i ⊎ (row old i ≡ row new i)) → with_rows_replaced old (rows_of new is) ≡ new
 named_rows_make_it old new is whole other r c same =
-    matrix_by_entries (with_rows old (rows_of new is)) new.rows new.cols (entry new) (with_rows-rows old (rows_of new is) ∙ r)
+    matrix_by_entries (with_rows_replaced old (rows_of new is)) new.rows new.cols (entry new) (with_rows-rows old (rows_of new is) ∙ r)
     (with_rows-cols old (rows_of new is) ∙ c)
     (with_rows-whole old (rows_of new is) whole) (λ i j p q. named_entry new old is i j r c (omega arith) (omega arith) (at i j p q (same i p)))
     ∙ sym (matrix_by_entries new new.rows new.cols (entry new) refl refl other (λ i j p q. refl))

@@ -13,7 +13,7 @@ use Rattle.client_core.specs.declared.state.Call.{Call}
 use Rattle.client_core.specs.declared.state.Call.TheVariants as call
 use Rattle.client_core.specs.States.{delta_base}
 use Rattle.client_core.specs.Calls.{ClientCall, Hello, Sync, Ask, Edit, Append, Publish, sync_begun}
-use Rattle.client_core.specs.Replies.{AfterReply, plan_given, reaction_to_reply, more_parts, reaction_to_stale, moved, changed, goes_by_parts}
+use Rattle.client_core.specs.Replies.{AfterReply, plan_given, reaction_to_reply, reaction_to_part, reaction_to_stale, reaction_to_delta, reaction_to_changes, reaction_to_no_delta}
 use Rattle.client_core.specs.Kinds.{takes_welcome, takes_asked_part, takes_part, answered, takes_answer, takes_stale, takes_delta, takes_changes, takes_no_delta, takes_done, takes_refused}
 use Rattle.client_core.specs.Laws.{Happening, Accepted, TurnedDown, Lacking, Replied as Reply, Failing, after, numbers, NoNumberTwice}
 
@@ -39,7 +39,7 @@ asked_part_number : (known : Option ServerInfo) (s : Scheme) (c : ClientState) (
     (takes_asked_part known s c v p scheme version part words).state.number ≡ c.number
 asked_part_number None s c v p scheme version part words = refl
 asked_part_number (Some k) s c v p scheme version part words =
-    either c.number _ (more_parts s k c v p (c.parts ++ words)) _ (either c.number _ _ _ refl refl) refl
+    either c.number _ (reaction_to_part s k c v p (c.parts ++ words)) _ (either c.number _ _ _ refl refl) refl
 
 part_number : (k : Call) (c : ClientState) (scheme version part : ℕ) (words : List ℕ) → (takes_part k c scheme version part words).state.number ≡ c.number
 part_number call.Idle c scheme version part words = refl
@@ -86,7 +86,7 @@ stale_number call.Append c version count = refl
 stale_number call.Publish c version count = refl
 
 moved_number : (known : Option ServerInfo) (hint : Option Hint) (c : ClientState) (asked since now count : ℕ) (rows : RowList) →
-    (moved known hint c asked since now count rows).state.number ≡ c.number
+    (reaction_to_delta known hint c asked since now count rows).state.number ≡ c.number
 moved_number None hint c asked since now count rows = refl
 moved_number (Some k) None c asked since now count rows = refl
 moved_number (Some k) (Some h) c asked since now count rows = either c.number _ _ _ refl refl
@@ -103,7 +103,7 @@ delta_number call.Append c since now count rows = refl
 delta_number call.Publish c since now count rows = refl
 
 changed_number : (known : Option ServerInfo) (hint : Option Hint) (c : ClientState) (asked since now count : ℕ) (entries : List ℕ) →
-    (changed known hint c asked since now count entries).state.number ≡ c.number
+    (reaction_to_changes known hint c asked since now count entries).state.number ≡ c.number
 changed_number None hint c asked since now count entries = refl
 changed_number (Some k) None c asked since now count entries = refl
 changed_number (Some k) (Some h) c asked since now count entries = either c.number _ _ _ refl refl
@@ -120,7 +120,7 @@ changes_number call.Edit c since now count entries = refl
 changes_number call.Append c since now count entries = refl
 changes_number call.Publish c since now count entries = refl
 
-by_parts_number : (known : Option ServerInfo) (c : ClientState) (version count : ℕ) → (goes_by_parts known c version count).state.number ≡ c.number
+by_parts_number : (known : Option ServerInfo) (c : ClientState) (version count : ℕ) → (reaction_to_no_delta known c version count).state.number ≡ c.number
 by_parts_number None c version count = refl
 by_parts_number (Some k) c version count = either c.number _ _ _ refl refl
 

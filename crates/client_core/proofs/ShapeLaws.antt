@@ -23,12 +23,12 @@ use Rattle.client_core.specs.declared.state.Call.TheVariants as call
 use Rattle.client_core.specs.declared.state.CallFault.{CallFault}
 use Rattle.client_core.specs.declared.state.CallFault.TheVariants.{NotReady, Busy, BadIndex, SeedUsedUp, Failed, AlreadyWelcome}
 use Rattle.client_core.specs.States.{shape_known, is_idle, is_ready, known_version, known_count, scheme_held, delta_base, is_wide_client}
-use Rattle.client_core.specs.Calls.{ClientCall, Hello, Sync, Ask, Edit, Append, Publish, frame_since, sync_frame, sync_begun, state_after_call, call_frame, call_words, refusal, spent}
-use Rattle.client_core.specs.Replies.{AfterReply, plan_given, reaction_to_reply, is_accepted_welcome, is_part, more_parts, is_answer, is_current, with_current, reaction_to_stale, row_numbers, is_delta, moved, is_changes, changed, goes_by_parts}
+use Rattle.client_core.specs.Calls.{ClientCall, Hello, Sync, Ask, Edit, Append, Publish, frame_since, sync_frame, sync_begun, state_after_call, call_frame, call_words, call_refusal, spent}
+use Rattle.client_core.specs.Replies.{AfterReply, plan_given, reaction_to_reply, is_accepted_welcome, is_part, reaction_to_part, is_answer, is_current, with_current, reaction_to_stale, row_numbers, is_delta, reaction_to_delta, is_changes, reaction_to_changes, reaction_to_no_delta}
 use Rattle.client_core.specs.Kinds.{takes_welcome, takes_asked_part, takes_part, answered, takes_answer, takes_stale, takes_delta, takes_changes, takes_no_delta, takes_done, takes_refused}
 use Rattle.client_core.specs.Feeding.{sends_of}
 use Rattle.client_core.specs.Laws.{Happening, Accepted, TurnedDown, Lacking, Replied as Reply, Failing, after}
-use Rattle.client_core.specs.Shapes.{frames_at, frames, FrameShape, shape_of_frame, frame_shape, BlankCall, BlankHello, BlankAsk, blank_call, blank_reply, BlankHappening, blank, Awaited, NoReply, APart, awaited, HintName, hint_name, Outline, outline, asked_count, named_base, kind_since, sync_shape, call_shape, outline_of_sync, outline_after_call, outline_spent, Reacted, after_welcome, after_good_part, after_asked_part, after_part, after_asked_delta, after_delta, after_asked_changes, after_changes, after_asked_no_delta, after_no_delta, after_asked_answer, after_answer, after_asked_stale, after_stale, after_done, after_refused, after_reply, outline_after, shapes_at, shapes, HasWholeKey, KeyIsWhole, IndexIsBelow, EqualShapes}
+use Rattle.client_core.specs.Shapes.{frames_at, frames, FrameShape, shape_of_frame, frame_shape, BlankCall, BlankHello, BlankAsk, blank_call, blank_reply, BlankHappening, blank_happening, Awaited, NoReply, APart, awaited, HintName, hint_name, Outline, outline, asked_count, named_base, kind_since, sync_shape, call_shape, outline_of_sync, outline_after_call, outline_spent, Reacted, after_welcome, after_good_part, after_asked_part, after_part, after_asked_delta, after_delta, after_asked_changes, after_changes, after_asked_no_delta, after_no_delta, after_asked_answer, after_answer, after_asked_stale, after_stale, after_done, after_refused, after_reply, outline_after, shapes_at, shapes, HasWholeKey, KeyIsWhole, IndexIsBelow, EqualShapes}
 
 -- a frame's shape by the size of its fields
 pub sized : (f : Frame) → shape_of_frame f ≡ frame_shape (kind_of f) (payload_size f)
@@ -111,7 +111,7 @@ welcome_reacts call.Append c plan count version = refl
 welcome_reacts call.Publish c plan count version = refl
 
 next_asked : (s : Scheme) (k : ServerInfo) (c : ClientState) (v p : ℕ) (words : List ℕ) →
-    reacted (more_parts s k c v p words) ≡ after_good_part s k (outline c) v p (length words)
+    reacted (reaction_to_part s k c v p words) ≡ after_good_part s k (outline c) v p (length words)
 next_asked s k c v p words =
     either (length words == hint_len s (shape_known k) k.plan.dimension) _ _ _ _ refl
     (ap (λ (x : FrameShape). more x) (sized (frame.HintAsk (scheme_byte s) v (p + 1))))
@@ -123,7 +123,7 @@ asked_part_reacts : (known : Option ServerInfo) (s : Scheme) (c : ClientState) (
     → reacted (takes_asked_part known s c v p scheme version part words) ≡ after_asked_part known s (outline c) v p scheme version part (length words)
 asked_part_reacts None s c v p scheme version part words = refl
 asked_part_reacts (Some k) s c v p scheme version part words =
-    either (is_part s (hint_len s (shape_known k) k.plan.dimension) v p scheme version part words) (more_parts s k c v p (c.parts ++ words)) _ _ _
+    either (is_part s (hint_len s (shape_known k) k.plan.dimension) v p scheme version part words) (reaction_to_part s k c v p (c.parts ++ words)) _ _ _
     (next_asked s k c v p (c.parts ++ words) ∙ ap (λ (x : ℕ). after_good_part s k (outline c) v p x) (length-append c.parts words))
     refl
 
@@ -175,7 +175,7 @@ stale_reacts call.Append c version count = refl
 stale_reacts call.Publish c version count = refl
 
 moved_reacts : (known : Option ServerInfo) (hint : Option Hint) (c : ClientState) (asked since now count : ℕ) (rows : RowList) →
-    reacted (moved known hint c asked since now count rows)
+    reacted (reaction_to_delta known hint c asked since now count rows)
     ≡ after_asked_delta known (hint_name hint) (outline c) asked since now count rows.dimension (row_numbers rows)
 moved_reacts None hint c asked since now count rows = refl
 moved_reacts (Some k) None c asked since now count rows = refl
@@ -195,7 +195,7 @@ delta_reacts call.Append c since now count rows = refl
 delta_reacts call.Publish c since now count rows = refl
 
 changed_reacts : (known : Option ServerInfo) (hint : Option Hint) (c : ClientState) (asked since now count : ℕ) (entries : List ℕ) →
-    reacted (changed known hint c asked since now count entries) ≡ after_asked_changes known (hint_name hint) (outline c) asked since now count entries
+    reacted (reaction_to_changes known hint c asked since now count entries) ≡ after_asked_changes known (hint_name hint) (outline c) asked since now count entries
 changed_reacts None hint c asked since now count entries = refl
 changed_reacts (Some k) None c asked since now count entries = refl
 changed_reacts (Some k) (Some h) c asked since now count entries = either (is_changes k asked since now count entries) _ _ _ _ refl refl
@@ -213,7 +213,7 @@ changes_react call.Append c since now count entries = refl
 changes_react call.Publish c since now count entries = refl
 
 by_parts_reacts : (known : Option ServerInfo) (c : ClientState) (version count : ℕ) →
-    reacted (goes_by_parts known c version count) ≡ after_asked_no_delta known (outline c) version count
+    reacted (reaction_to_no_delta known c version count) ≡ after_asked_no_delta known (outline c) version count
 by_parts_reacts None c version count = refl
 by_parts_reacts (Some k) c version count =
     either (is_current k version count) _ _ _ _ (ap (λ (x : FrameShape). more x) (sized (frame.HintAsk (scheme_byte Simple) version 0))) refl
@@ -273,34 +273,34 @@ reply_reacts c _ = refl
 
 -- ---- any happening
 
-outline_is : (c : ClientState) (h : Happening) → outline (after c h) ≡ outline_after (outline c) (blank h)
+outline_is : (c : ClientState) (h : Happening) → outline (after c h) ≡ outline_after (outline c) (blank_happening h)
 outline_is c (Accepted want) = call_outlined c want
 outline_is c (TurnedDown want) = refl
 outline_is c (Lacking want) = spent_outlined c want
 outline_is c (Reply f) = ap (λ (x : Reacted). x.outline) (reply_reacts c f)
 outline_is c Failing = refl
 
-shapes_here : (c : ClientState) (h : Happening) → KeyIsWhole h → map shape_of_frame (frames_at c h) ≡ shapes_at (outline c) (blank h)
+shapes_here : (c : ClientState) (h : Happening) → KeyIsWhole h → map shape_of_frame (frames_at c h) ≡ shapes_at (outline c) (blank_happening h)
 shapes_here c (Accepted want) whole = ap (λ (x : FrameShape). x ∷ []) (call_shaped c want whole)
 shapes_here c (TurnedDown want) whole = refl
 shapes_here c (Lacking want) whole = refl
 shapes_here c (Reply f) whole = ap (λ (x : Reacted). x.sends) (reply_reacts c f)
 shapes_here c Failing whole = refl
 
-shapes_are : (c : ClientState) (hs : List Happening) → AllByRecursion KeyIsWhole hs → map shape_of_frame (frames c hs) ≡ shapes (outline c) (map blank hs)
+shapes_are : (c : ClientState) (hs : List Happening) → AllByRecursion KeyIsWhole hs → map shape_of_frame (frames c hs) ≡ shapes (outline c) (map blank_happening hs)
 shapes_are c [] whole = refl
 shapes_are c (h ∷ hs) whole =
     map-append shape_of_frame (frames_at c h) (frames (after c h) hs)
     ∙ ap (λ (x : List FrameShape). x ++ map shape_of_frame (frames (after c h) hs)) (shapes_here c h whole.0)
-    ∙ ap (λ (x : List FrameShape). shapes_at (outline c) (blank h) ++ x) (shapes_are (after c h) hs whole.1)
-    ∙ ap (λ (x : Outline). shapes_at (outline c) (blank h) ++ shapes x (map blank hs)) (outline_is c h)
+    ∙ ap (λ (x : List FrameShape). shapes_at (outline c) (blank_happening h) ++ x) (shapes_are (after c h) hs whole.1)
+    ∙ ap (λ (x : Outline). shapes_at (outline c) (blank_happening h) ++ shapes x (map blank_happening hs)) (outline_is c h)
 
 same_shapes : (c d : ClientState) (hs gs : List Happening) → AllByRecursion KeyIsWhole hs → AllByRecursion KeyIsWhole gs → outline c ≡ outline d →
-    map blank hs ≡ map blank gs
+    map blank_happening hs ≡ map blank_happening gs
     → map shape_of_frame (frames c hs) ≡ map shape_of_frame (frames d gs)
 same_shapes c d hs gs whole whole2 alike same =
     shapes_are c hs whole
-    ∙ ap (λ (x : Outline). shapes x (map blank hs)) alike
+    ∙ ap (λ (x : Outline). shapes x (map blank_happening hs)) alike
     ∙ ap (λ (x : List BlankHappening). shapes (outline d) x) same
     ∙ sym (shapes_are d gs whole2)
 
@@ -342,7 +342,7 @@ ready_same None hint = refl
 ready_same (Some k) None = refl
 ready_same (Some k) (Some h) = refl
 
-refused_same : (c : ClientState) (want : ClientCall) → IndexIsBelow want c → refusal want c ≡ refused (blank_call want) (outline c)
+refused_same : (c : ClientState) (want : ClientCall) → IndexIsBelow want c → call_refusal want c ≡ refused (blank_call want) (outline c)
 unfolding refused
 refused_same c (Hello key) below = rw (idle_same c.call) refl
 refused_same c (Sync scheme) below = rw (idle_same c.call) refl
@@ -364,7 +364,7 @@ refused_ask failed ready idle below left =
 outlined_ask : Bool → Outline → Option CallFault
 outlined_ask below x = refused_ask x.failed (ready x.known x.hint) (no_reply x.call) below (nat_lt x.number (2 ^ 62))
 
-ask_outlined : (c : ClientState) (i : ℕ) → refusal (Ask i) c ≡ outlined_ask (nat_lt i (known_count c.known)) (outline c)
+ask_outlined : (c : ClientState) (i : ℕ) → call_refusal (Ask i) c ≡ outlined_ask (nat_lt i (known_count c.known)) (outline c)
 unfolding refused_ask outlined_ask
 ask_outlined c i = rw (idle_same c.call, ready_same c.known c.hint) refl
 
@@ -378,7 +378,7 @@ as_below false true false b u h = refl
 as_below false true true true u h = refl
 as_below false true true false u h = absurd (h refl)
 
-ask_below : (c : ClientState) (i : ℕ) → refusal (Ask i) c ≢ Some BadIndex → refusal (Ask i) c ≡ outlined_ask true (outline c)
+ask_below : (c : ClientState) (i : ℕ) → call_refusal (Ask i) c ≢ Some BadIndex → call_refusal (Ask i) c ≡ outlined_ask true (outline c)
 unfolding outlined_ask
 ask_below c i h =
     ask_outlined c i
@@ -387,8 +387,8 @@ ask_below c i h =
 
 -- two asks of clients that differ in indices and words alone are refused alike, where the indices
 -- are the same or neither is refused for its own
-pub same_ask : (c d : ClientState) (i j : ℕ) → outline c ≡ outline d → (j ≢ i → refusal (Ask i) c ≢ Some BadIndex) →
-    (i ≢ j → refusal (Ask j) d ≢ Some BadIndex) → refusal (Ask i) c ≡ refusal (Ask j) d
+pub same_ask : (c d : ClientState) (i j : ℕ) → outline c ≡ outline d → (j ≢ i → call_refusal (Ask i) c ≢ Some BadIndex) →
+    (i ≢ j → call_refusal (Ask j) d ≢ Some BadIndex) → call_refusal (Ask i) c ≡ call_refusal (Ask j) d
 same_ask c d i j alike first second = elim (cases_eq i j) [
   | inl same ↦ ask_outlined c i
       ∙ ap (λ (x : Outline). outlined_ask (nat_lt i (known_count x.known)) x) alike
@@ -398,7 +398,7 @@ same_ask c d i j alike first second = elim (cases_eq i j) [
 ]
 
 same_refusal : (c d : ClientState) (want other : ClientCall) → IndexIsBelow want c → IndexIsBelow other d → outline c ≡ outline d →
-    blank_call want ≡ blank_call other → refusal want c ≡ refusal other d
+    blank_call want ≡ blank_call other → call_refusal want c ≡ call_refusal other d
 same_refusal c d want other below below2 alike same =
     refused_same c want below
     ∙ ap (λ (x : Outline). refused (blank_call want) x) alike

@@ -33,15 +33,15 @@ abbrev pub change_refusal : ClientState → Option CallFault
 change_refusal c = if c.failed then Some Failed else (if is_some c.known then (if is_idle c.call then None else Some Busy) else Some NotReady)
 
 -- the first check that applies refuses a call
-abbrev pub refusal : ClientCall → ClientState → Option CallFault
-refusal (Hello key) c = hello_refusal c
-refusal (Ask i) c =
+abbrev pub call_refusal : ClientCall → ClientState → Option CallFault
+call_refusal (Hello key) c = hello_refusal c
+call_refusal (Ask i) c =
     if c.failed then Some Failed
     else (if is_ready c.known c.hint then (
     if is_idle c.call then (
     if nat_lt i (known_count c.known) then (
     if nat_lt c.number (2 ^ 62) then None else Some SeedUsedUp) else Some BadIndex) else Some Busy) else Some NotReady)
-refusal _ c = change_refusal c
+call_refusal _ c = change_refusal c
 
 -- the call that asks for what changed since a version: for records in a wide store, for rows of the
 -- hint in an ordinary one
@@ -98,7 +98,7 @@ call_frame Publish c = frame.Publish
 
 -- an accepted call: no check refuses it, and the bytes to send are its frame's
 pub record Accepts (old : ClientState) (want : ClientCall) (new : ClientState) (bytes : List ℕ) : Type 0 where
-  pub may : refusal want old ≡ None
+  pub may : call_refusal want old ≡ None
   pub state : new ≡ state_after_call want old
   pub written : bytes ≡ encoding (call_frame want old)
   pub fits : IsFrame (call_frame want old)
@@ -106,4 +106,4 @@ pub record Accepts (old : ClientState) (want : ClientCall) (new : ClientState) (
 -- a refused call: by the first check that applies, and nothing changes; or memory was refused
 abbrev pub Refuses : ClientState → ClientCall → CallFault → ClientState → Type 0
 Refuses old want fault new =
-    ((refusal want old ≡ Some fault) × (new ≡ old)) ⊎ ((fault ≡ Memory) × (refusal want old ≡ None) × (new ≡ spent want old))
+    ((call_refusal want old ≡ Some fault) × (new ≡ old)) ⊎ ((fault ≡ Memory) × (call_refusal want old ≡ None) × (new ≡ spent want old))

@@ -33,7 +33,7 @@ abbrev pub events_of : Reaction → List Event
 events_of (Reports e) = e ∷ []
 events_of _ = []
 
--- its fault
+-- the fault that a reaction reports, if it does
 abbrev pub fault_of : Reaction → Option ClientFault
 fault_of (Fails f) = Some f
 fault_of _ = None

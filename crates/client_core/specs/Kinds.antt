@@ -13,7 +13,7 @@ use Rattle.client_core.specs.declared.state.Hint.{Hint}
 use Rattle.client_core.specs.declared.state.Call.{Call}
 use Rattle.client_core.specs.declared.state.Event.{Event}
 use Rattle.client_core.specs.States.{shape_known}
-use Rattle.client_core.specs.Replies.{AfterReply, ended, if_known, if_held, is_part, more_parts, event_read, is_answer, reaction_during}
+use Rattle.client_core.specs.Replies.{AfterReply, ended, if_known, if_held, is_part, reaction_to_part, event_read, is_answer, reaction_during}
 
 -- a Welcome
 abbrev pub takes_welcome : Call → ClientState → Plan → ℕ → ℕ → AfterReply
@@ -28,7 +28,7 @@ takes_part call c scheme version part words = reaction_during (frame.HintPart sc
 abbrev pub takes_asked_part : Option ServerInfo → Scheme → ClientState → ℕ → ℕ → ℕ → ℕ → ℕ → List ℕ → AfterReply
 takes_asked_part known s c asked next scheme version part words =
     if_known c known (λ k. is_part s (hint_len s (shape_known k) k.plan.dimension) asked next scheme version part words)
-    (λ k. more_parts s k c asked next (c.parts ++ words))
+    (λ k. reaction_to_part s k c asked next (c.parts ++ words))
 
 -- an answer
 abbrev pub takes_answer : Call → ClientState → ℕ → ℕ → List ℕ → AfterReply

@@ -6,7 +6,7 @@ use Rattle.frame_codec.specs.declared.frame.Frame.TheVariants as frame
 use Rattle.frame_codec.specs.Rows.{Row, RowList, rows_in}
 use Rattle.matrix_u32.specs.Matrix.{WordMatrix, with_row}
 use Rattle.digit_pack.specs.Layout.{Shape, digit_rows}
-use Rattle.hint_changes.specs.Changes.{moved as moved_matrix}
+use Rattle.hint_changes.specs.Changes.{moved}
 use Rattle.hint_changes.specs.Entries.{changes_in, entry_len}
 use Rattle.pir_schemes.specs.declared.scheme.Scheme.{Scheme}
 use Rattle.pir_schemes.specs.declared.scheme.Scheme.TheVariants.{Simple}
@@ -68,8 +68,8 @@ is_accepted_welcome profile p count version =
 
 -- what a Welcome leads to: if it is accepted, what it names is known from then on; else it is a bad
 -- one
-abbrev pub welcomed : ClientState → Plan → ℕ → ℕ → AfterReply
-welcomed c p count version =
+abbrev pub reaction_to_welcome : ClientState → Plan → ℕ → ℕ → AfterReply
+reaction_to_welcome c p count version =
     if is_accepted_welcome c.profile p count version
     then ended (record c { known = Some (record { version = version; count = count; plan = p }) }) (Welcomed version)
     else faulty c BadWelcome
@@ -88,8 +88,8 @@ hint_made s k version words =
     record { scheme = s; version = version; matrix = record { rows = hint_rows s (shape_known k) n; cols = n; words = words } }
 
 -- the last part makes the hint whole, and after another the next part is asked for
-abbrev pub more_parts : Scheme → ServerInfo → ClientState → ℕ → ℕ → List ℕ → AfterReply
-more_parts s k c version part words =
+abbrev pub reaction_to_part : Scheme → ServerInfo → ClientState → ℕ → ℕ → List ℕ → AfterReply
+reaction_to_part s k c version part words =
     if length words == hint_len s (shape_known k) k.plan.dimension
     then ended (record c { hint = Some (hint_made s k version words); parts = [] }) (Synced s version)
     else record { state = record c { call = Sync s version (part + 1); parts = words }; reaction = Asks s version (part + 1) }
@@ -117,7 +117,7 @@ abbrev pub with_current : ServerInfo → ℕ → ℕ → ServerInfo
 with_current k version count = record k { version = version; count = count }
 
 -- the version and the count named are the last known, if these are another version than asked
--- and a count within the limits; `after` is the state that goes on then
+-- and a count within the limits, else it is a bad reply; `after` is the state that goes on then
 abbrev pub reaction_to_stale : Option ServerInfo → ClientState → ClientState → ℕ → ℕ → ℕ → AfterReply
 reaction_to_stale None after c asked version count = faulty c BadReply
 reaction_to_stale (Some k) after c asked version count =
@@ -137,25 +137,25 @@ abbrev pub row_numbers : RowList → List ℕ
 row_numbers rows = map (λ r. r.number) (rows_in rows)
 
 -- a Delta that was asked for: from the version asked to one that can be, with rows of the hint's
--- length, at most 1024 of them, in order and each once
+-- length, at most 1024 of them, whose numbers the hint has, in order and each once
 abbrev pub is_delta : ServerInfo → ℕ → ℕ → ℕ → ℕ → ℕ → List ℕ → Bool
 is_delta k asked since now count dimension numbers =
     (since == asked) && (is_current k now count && ((dimension == k.plan.dimension) && (nat_le (length numbers) 1024
     && are_ascending 0 (digit_rows (shape_known k)) numbers)))
 
 -- a matrix with these rows in place of its own
-unfoldable pub with_rows : WordMatrix → List Row → WordMatrix
-with_rows m [] = m
-with_rows m (r ∷ rs) = with_rows (with_row m r.number r.words) rs
+unfoldable pub with_rows_replaced : WordMatrix → List Row → WordMatrix
+with_rows_replaced m [] = m
+with_rows_replaced m (r ∷ rs) = with_rows_replaced (with_row m r.number r.words) rs
 
 -- a hint of another version, with these rows in place of its own
 abbrev pub hint_with_rows : Hint → ℕ → RowList → Hint
-hint_with_rows h version rows = record h { version = version; matrix = with_rows h.matrix (rows_in rows) }
+hint_with_rows h version rows = record h { version = version; matrix = with_rows_replaced h.matrix (rows_in rows) }
 
 -- what a Delta leads to: its rows replace those of the hint held, and the version and the count
 -- that it names are the last known then
-abbrev pub moved : Option ServerInfo → Option Hint → ClientState → ℕ → ℕ → ℕ → ℕ → RowList → AfterReply
-moved known hint c asked since now count rows =
+abbrev pub reaction_to_delta : Option ServerInfo → Option Hint → ClientState → ℕ → ℕ → ℕ → ℕ → RowList → AfterReply
+reaction_to_delta known hint c asked since now count rows =
     if_held c known hint (λ k h. is_delta k asked since now count rows.dimension (row_numbers rows))
     (λ k h. ended (record c { known = Some (with_current k now count); hint = Some (hint_with_rows h now rows) }) (Synced Simple now))
 
@@ -180,12 +180,12 @@ is_changes k asked since now count entries =
 abbrev pub hint_with_entries : Plan → Hint → ℕ → ℕ → List ℕ → Hint
 hint_with_entries p h version count entries =
     let l = shape_at p count in
-    record h { version = version; matrix = moved_matrix l (first_public l p.dimension p.seed) (changes_in p.record_len entries) h.matrix }
+    record h { version = version; matrix = moved l (first_public l p.dimension p.seed) (changes_in p.record_len entries) h.matrix }
 
 -- what Changes lead to: the changes in their entries move the hint held, and the version and the
 -- count that they name are the last known then
-abbrev pub changed : Option ServerInfo → Option Hint → ClientState → ℕ → ℕ → ℕ → ℕ → List ℕ → AfterReply
-changed known hint c asked since now count entries =
+abbrev pub reaction_to_changes : Option ServerInfo → Option Hint → ClientState → ℕ → ℕ → ℕ → ℕ → List ℕ → AfterReply
+reaction_to_changes known hint c asked since now count entries =
     if_held c known hint (λ k h. is_changes k asked since now count entries)
     (λ k h. ended (record c { known = Some (with_current k now count); hint = Some (hint_with_entries k.plan h now count entries) }) (Synced Simple now))
 
@@ -193,8 +193,8 @@ changed known hint c asked since now count entries =
 
 -- what a NoDelta leads to: the hint held is dropped, and the sync goes on by the parts of the
 -- version that it names, which is the last known then, whichever version was asked about
-abbrev pub goes_by_parts : Option ServerInfo → ClientState → ℕ → ℕ → AfterReply
-goes_by_parts known c version count =
+abbrev pub reaction_to_no_delta : Option ServerInfo → ClientState → ℕ → ℕ → AfterReply
+reaction_to_no_delta known c version count =
     if_known c known (λ k. is_current k version count) (λ k. record {
       state = record c { known = Some (with_current k version count); hint = None; parts = []; call = Sync Simple version 0 };
       reaction = Asks Simple version 0;
@@ -210,20 +210,20 @@ goes_by_parts known c version count =
 -- came. Any other frame, and any frame during no call, is a bad reply.
 abbrev pub reaction_during : Frame → Call → ClientState → AfterReply
 reaction_during (frame.Welcome profile width record_len groups count version dimension seed) Hello c =
-    welcomed c (record { form = profile; width = width; record_len = record_len; groups = groups; dimension = dimension; seed = seed })
+    reaction_to_welcome c (record { form = profile; width = width; record_len = record_len; groups = groups; dimension = dimension; seed = seed })
     count version
 reaction_during (frame.HintPart scheme version part words) (Sync s v p) c =
     if_known c c.known (λ k. is_part s (hint_len s (shape_known k) k.plan.dimension) v p scheme version part words)
-    (λ k. more_parts s k c v p (c.parts ++ words))
+    (λ k. reaction_to_part s k c v p (c.parts ++ words))
 reaction_during (frame.Answer scheme version words) (Ask i v n) c =
     if_held c c.known c.hint (λ k h. is_answer h.scheme k v scheme version words)
     (λ k h. ended c (event_read i version (record_of k.plan (reading h.scheme (shape_known k) h.matrix c.seed n i words))))
 reaction_during (frame.Stale version count) (Sync s v p) c = reaction_to_stale c.known (record c { parts = [] }) c v version count
 reaction_during (frame.Stale version count) (Ask i v n) c = reaction_to_stale c.known c c v version count
-reaction_during (frame.Delta since now count rows) (Delta asked) c = moved c.known c.hint c asked since now count rows
-reaction_during (frame.Changes since now count entries) (Changes asked) c = changed c.known c.hint c asked since now count entries
-reaction_during (frame.NoDelta version count) (Delta asked) c = goes_by_parts c.known c version count
-reaction_during (frame.NoDelta version count) (Changes asked) c = goes_by_parts c.known c version count
+reaction_during (frame.Delta since now count rows) (Delta asked) c = reaction_to_delta c.known c.hint c asked since now count rows
+reaction_during (frame.Changes since now count entries) (Changes asked) c = reaction_to_changes c.known c.hint c asked since now count entries
+reaction_during (frame.NoDelta version count) (Delta asked) c = reaction_to_no_delta c.known c version count
+reaction_during (frame.NoDelta version count) (Changes asked) c = reaction_to_no_delta c.known c version count
 reaction_during (frame.Done version) Edit c = ended c (Done version)
 reaction_during (frame.Done version) Append c = ended c (Done version)
 reaction_during (frame.Done version) Publish c = ended c (Done version)

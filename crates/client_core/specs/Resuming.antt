@@ -12,7 +12,7 @@ use Rattle.client_core.specs.declared.state.CallFault.{CallFault}
 use Rattle.client_core.specs.declared.state.Call.TheVariants as call
 use Rattle.client_core.specs.declared.resuming.SavedClient.{SavedClient}
 use Rattle.client_core.specs.States.{IsState, shape_known, fresh_in, is_ready}
-use Rattle.client_core.specs.Calls.{Ask, refusal, change_refusal, state_after_call, call_frame, Hello}
+use Rattle.client_core.specs.Calls.{Ask, call_refusal, change_refusal, state_after_call, call_frame, Hello}
 use Rattle.client_core.specs.Replies.{is_accepted_welcome}
 use Rattle.client_core.specs.Kinds.{takes_welcome}
 use Rattle.client_core.specs.Feeding.{Course, takes_all}
@@ -37,29 +37,29 @@ pub record IsHintFor (now : ServerInfo) (h : Hint) : Type 0 where
   pub cols : h.matrix.cols ≡ now.plan.dimension
 
 -- a client that knows this now may go on with the hint saved
-abbrev pub MayHold : ServerInfo → Option ServerInfo → Option Hint → Type 0
-MayHold now None hint = ⊥
-MayHold now (Some then) None = ⊥
-MayHold now (Some then) (Some h) = HasBecome then now × IsHintFor now h
+abbrev pub MayResumeWith : ServerInfo → Option ServerInfo → Option Hint → Type 0
+MayResumeWith now None hint = ⊥
+MayResumeWith now (Some then) None = ⊥
+MayResumeWith now (Some then) (Some h) = HasBecome then now × IsHintFor now h
 
 -- a client let in goes on with the hint saved, and nothing else of it changes
-pub record GoesOn (old : ClientState) (saved : SavedClient) (new : ClientState) : Type 0 where
+pub record GoesOnWithHint (old : ClientState) (saved : SavedClient) (new : ClientState) : Type 0 where
   pub now : ServerInfo
   pub known : old.known ≡ Some now
-  pub may : MayHold now saved.known saved.hint
+  pub may : MayResumeWith now saved.known saved.hint
   pub state : new ≡ record old { hint = saved.hint }
 
 -- the hint saved is dropped, being none that the client may go on with, and nothing changes
 pub record Drops (old : ClientState) (saved : SavedClient) (new : ClientState) : Type 0 where
   pub now : ServerInfo
   pub known : old.known ≡ Some now
-  pub may_not : ¬ MayHold now saved.known saved.hint
+  pub may_not : ¬ MayResumeWith now saved.known saved.hint
   pub state : new ≡ old
 
 -- what came of a client's resumption: it holds the hint saved, or that was dropped; refused as a
 -- sync is, it is as it was
 abbrev pub IsResumed : ClientState → SavedClient → Result Bool CallFault → ClientState → Type 0
-IsResumed old saved (Ok true) new = (change_refusal old ≡ None) × GoesOn old saved new
+IsResumed old saved (Ok true) new = (change_refusal old ≡ None) × GoesOnWithHint old saved new
 IsResumed old saved (Ok false) new = (change_refusal old ≡ None) × Drops old saved new
 IsResumed old saved (Err fault) new = (change_refusal old ≡ Some fault) × (new ≡ old)
 
@@ -118,7 +118,7 @@ course_holding k h = record k { state = holding k.state h }
 -- the same frame; and whatever replies come then lead to the same events, frames, fault and state
 -- but for the hint.
 pub record AsksAlike (c : ClientState) (i : ℕ) (part : Hint) : Type 0 where
-  pub refusal : refusal (Ask i) (holding c part) ≡ refusal (Ask i) c
+  pub refusal : call_refusal (Ask i) (holding c part) ≡ call_refusal (Ask i) c
   pub frame : call_frame (Ask i) (holding c part) ≡ call_frame (Ask i) c
   pub replies : (replies : List Frame) → takes_all (state_after_call (Ask i) (holding c part)) replies
       ≡ course_holding (takes_all (state_after_call (Ask i) c) replies) part

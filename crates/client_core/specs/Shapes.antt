@@ -24,7 +24,7 @@ use Rattle.client_core.specs.declared.state.CallFault.{CallFault}
 use Rattle.client_core.specs.declared.state.ClientFault.{ClientFault}
 use Rattle.client_core.specs.declared.state.ClientFault.TheVariants.{Memory}
 use Rattle.client_core.specs.declared.state.Event.{Event}
-use Rattle.client_core.specs.Calls.{ClientCall, Hello, Sync, Ask, Edit, Append, Publish, call_since, call_frame, refusal, Accepts, Refuses}
+use Rattle.client_core.specs.Calls.{ClientCall, Hello, Sync, Ask, Edit, Append, Publish, call_since, call_frame, call_refusal, Accepts, Refuses}
 use Rattle.client_core.specs.Replies.{reaction_to_reply, plan_given, is_accepted_welcome, is_current, with_current, row_numbers, is_delta, is_changes}
 use Rattle.client_core.specs.Feeding.{Client, sends_of, events_of, fault_of, takes_all, FeedsClient}
 use Rattle.client_core.specs.Laws.{Happening, Accepted, TurnedDown, Lacking, Replied, Failing, after}
@@ -114,12 +114,12 @@ pub data BlankHappening : Type 0 where
   BlankFailing : BlankHappening
 
 -- what happened, without indices and words
-abbrev pub blank : Happening → BlankHappening
-blank (Accepted want) = BlankAccepted (blank_call want)
-blank (TurnedDown want) = BlankTurnedDown (blank_call want)
-blank (Lacking want) = BlankLacking (blank_call want)
-blank (Replied reply) = BlankTaken (blank_reply reply)
-blank Failing = BlankFailing
+abbrev pub blank_happening : Happening → BlankHappening
+blank_happening (Accepted want) = BlankAccepted (blank_call want)
+blank_happening (TurnedDown want) = BlankTurnedDown (blank_call want)
+blank_happening (Lacking want) = BlankLacking (blank_call want)
+blank_happening (Replied reply) = BlankTaken (blank_reply reply)
+blank_happening Failing = BlankFailing
 
 -- what the client waits for: nothing; a Welcome; a part of a version's hint; a Delta or Changes
 -- from a version; an answer of a version; a Done
@@ -402,12 +402,12 @@ IndexIsBelow _ c = Unit {0}
 -- lengths, nor whether and why a call of a record below the count known is refused.
 pub record EqualShapes : Type 0 where
   pub shapes_are : (c : ClientState) (hs : List Happening) → AllByRecursion KeyIsWhole hs →
-      map shape_of_frame (frames c hs) ≡ shapes (outline c) (map blank hs)
-  pub outline_is : (c : ClientState) (h : Happening) → outline (after c h) ≡ outline_after (outline c) (blank h)
+      map shape_of_frame (frames c hs) ≡ shapes (outline c) (map blank_happening hs)
+  pub outline_is : (c : ClientState) (h : Happening) → outline (after c h) ≡ outline_after (outline c) (blank_happening h)
   pub same_shapes : (c d : ClientState) (hs gs : List Happening) → AllByRecursion KeyIsWhole hs → AllByRecursion KeyIsWhole gs →
-      outline c ≡ outline d → map blank hs ≡ map blank gs → map shape_of_frame (frames c hs) ≡ map shape_of_frame (frames d gs)
+      outline c ≡ outline d → map blank_happening hs ≡ map blank_happening gs → map shape_of_frame (frames c hs) ≡ map shape_of_frame (frames d gs)
   pub same_refusal : (c d : ClientState) (want other : ClientCall) → IndexIsBelow want c → IndexIsBelow other d →
-      outline c ≡ outline d → blank_call want ≡ blank_call other → refusal want c ≡ refusal other d
+      outline c ≡ outline d → blank_call want ≡ blank_call other → call_refusal want c ≡ call_refusal other d
 
 -- ---- what a client does is happenings
 
@@ -442,10 +442,10 @@ abbrev pub happenings_of : ClientState → List Frame → Result (Unit {0}) Read
 happenings_of c fs answer = taken_of c fs ++ (if is_some (takes_all c fs).fault then [] else failure_at answer)
 
 -- a reply, or a failure
-abbrev pub IsFed : Happening → Type 0
-IsFed (Replied reply) = Unit {0}
-IsFed Failing = Unit {0}
-IsFed _ = ⊥
+abbrev pub IsReplyOrFailure : Happening → Type 0
+IsReplyOrFailure (Replied reply) = Unit {0}
+IsReplyOrFailure Failing = Unit {0}
+IsReplyOrFailure _ = ⊥
 
 -- The replies that a piece makes whole happened to a client, one after another: they led from one
 -- state to the other, their frames were written and their events reported.
@@ -455,7 +455,7 @@ pub record Happened (old : Client) (piece out : List ℕ) (events : List Event) 
   pub reads : Feeds (is_wide_client old.state) old.reader piece answer replies new.reader
   pub happenings : List Happening
   pub happenings_are : happenings ≡ happenings_of old.state replies answer
-  pub fed : AllByRecursion IsFed happenings
+  pub fed : AllByRecursion IsReplyOrFailure happenings
   pub written : out ≡ flat_map encoding (frames old.state happenings)
   pub reported : events ≡ reported_events old.state happenings
   pub state : new.state ≡ after_all old.state happenings

@@ -114,6 +114,6 @@ pub record IsState (c : ClientState) : Type 0 where
   pub delta : DeltaFits c.call c.hint
 
 -- what no reply changes: that these things are true, and the next number
-pub record Keeps (old new : ClientState) : Type 0 where
+pub record KeepsNumber (old new : ClientState) : Type 0 where
   pub good : IsState new
   pub number : new.number ≡ old.number

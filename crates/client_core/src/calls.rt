@@ -8,7 +8,8 @@ ghost use Rattle.pir_schemes.specs.Retrievals.{query_words};
 ghost use Rattle.client_core.specs.States.{IsKnown, shape_known, is_ready, is_idle, known_count};
 ghost use Rattle.client_core.specs.States.{scheme_held, delta_base};
 ghost use Rattle.client_core.specs.Buffers.{IsAskBuffers};
-ghost use Rattle.client_core.specs.Calls.{ClientCall, refusal, hello_refusal, change_refusal, call_since};
+ghost use Rattle.client_core.specs.Calls.{ClientCall, call_refusal, hello_refusal, change_refusal};
+ghost use Rattle.client_core.specs.Calls.{call_since};
 ghost use Rattle.client_core.specs.Calls.{frame_since};
 
 use crate::state::{Call, CallFault, ClientState, Hint, ServerInfo};
@@ -80,9 +81,9 @@ pub(crate) fn may_change(state: &ClientState) -> Result<ServerInfo, CallFault>
 
 /// The checks of `ask`, in their order. Returns what is known.
 pub(crate) fn may_ask(state: &ClientState, index: u32) -> Result<ServerInfo, CallFault>
-    ensures { MatchResult result (λ k. (refusal (ClientCall.Ask index) state.now ≡ None) ×
+    ensures { MatchResult result (λ k. (call_refusal (ClientCall.Ask index) state.now ≡ None) ×
         (state.now.known ≡ Some k) × (index < k.count) × (state.now.number < 2 ^ 62))
-        (λ e. refusal (ClientCall.Ask index) state.now ≡ Some e) }
+        (λ e. call_refusal (ClientCall.Ask index) state.now ≡ Some e) }
 {
     if state.failed {
         return Err(CallFault::Failed);
@@ -241,7 +242,7 @@ pub(crate) fn ask_buffers(
 
 /// A retrieval: the record and the version asked for, and its number under the seed.
 #[derive(Clone, Copy)]
-pub(crate) struct Retrieval {
+pub(crate) struct AskedRecord {
     pub(crate) index: u32,
     pub(crate) version: u64,
     pub(crate) number: u64,
@@ -258,7 +259,7 @@ pub(crate) fn query_bytes<K: Kernel>(
     scheme: Scheme,
     known: &ServerInfo,
     seed: &[u8; 32],
-    asked: Retrieval,
+    asked: AskedRecord,
 ) -> Vec<u8>
     requires room { IsAskBuffers scheme known.now room }
     requires known { IsKnown known.now }

@@ -14,7 +14,7 @@ ghost use Rattle.client_core.specs.Feeding.{Client, FeedsClient};
 ghost use Rattle.client_core.specs.Resuming.{IsDropped, IsResumed, saved_of};
 
 use crate::calls::{
-    Retrieval, append_bytes, ask_buffers, base_of, call_since, edit_bytes, encoded, frame_since,
+    AskedRecord, append_bytes, ask_buffers, base_of, call_since, edit_bytes, encoded, frame_since,
     may_ask, may_change, may_hello, query_bytes, scheme_of, spend_number,
 };
 use crate::parts::Parts;
@@ -82,7 +82,7 @@ impl<K: Kernel> ClientCore<K> {
         ClientCore::of_profile(alloc, kernel, client_profile(true), seed, first_number)
     }
 
-    /// Whether the next greeting is one of wide stores or of ordinary ones: a client that a store
+    /// Makes the next greeting one of wide stores or of ordinary ones: a client that a store
     /// refused for its profile greets it again, in the same session, with the other. Nothing else
     /// changes, and no number is spent.
     pub fn speak(&mut self, wide: bool)
@@ -178,10 +178,11 @@ impl<K: Kernel> ClientCore<K> {
     }
 
     /// Goes on with what was saved of another client, once this one was let in. Returns whether its
-    /// hint is held now: it is, if the plan is equal, neither the version known then nor the
-    /// hint's is later than the server's, the records were no more, and as many if the version
-    /// is the same. Else the hint saved is dropped, and all is as it was. The number saved is left
-    /// alone: [`new`](ClientCore::new) takes it.
+    /// hint is held now. That is so if the plan is equal, neither the version known then nor the
+    /// hint's is later than the server's, the records were no more, and as many if the version is
+    /// the same, and the hint has the rows and columns that its scheme wants. Else the hint saved
+    /// is dropped, and all is as it was. The number saved is left alone:
+    /// [`new`](ClientCore::new) takes it.
     ///
     /// What no comparison shows: other records under an equal plan, with its public seed, and an
     /// equal version. The hint is wrong for these.
@@ -236,11 +237,11 @@ impl<K: Kernel> ClientCore<K> {
         Ok(bytes)
     }
 
-    /// Asks for the hint of the last version known, part by part, and drops the hint held. A client
-    /// that holds a SimplePIR hint asks for what changed since, and keeps the hint meanwhile: for
-    /// the rows of the hint, or, of a wide store, for the records, by which it moves the hint
-    /// itself. If the server doesn't have these, the parts are asked for. Gives the bytes to send;
-    /// `feed` gives those that ask for the further parts.
+    /// Asks for a scheme's hint of the last version known, part by part, and drops the hint held. A
+    /// sync of SimplePIR by a client that holds a SimplePIR hint asks for what changed since, and
+    /// keeps the hint meanwhile: for the rows of the hint, or, of a wide store, for the records, by
+    /// which it moves the hint itself. If the server doesn't have these, the parts are asked for.
+    /// Gives the bytes to send; `feed` gives those that ask for the further parts.
     ///
     /// Refused in this order: `Failed`, `NotReady` (no Welcome came yet), `Busy`, `Memory`. A
     /// refusal changes nothing.
@@ -326,7 +327,7 @@ impl<K: Kernel> ClientCore<K> {
         let scheme = scheme_of(&self.state.hint);
         let room = ask_buffers(self.alloc, scheme, &known)?;
         let version = known.version;
-        let asked = Retrieval {
+        let asked = AskedRecord {
             index,
             version,
             number,
@@ -399,10 +400,11 @@ impl<K: Kernel> ClientCore<K> {
     /// Takes the next piece of the server's stream.
     ///
     /// Each frame that is whole now is taken as the reply to the outstanding call. `BadWelcome`
-    /// if a Welcome has a profile that is no form of these records, sizes beyond the limits or
-    /// version 0; `BadReply` if a reply is none that the outstanding call can have, if no
-    /// call is outstanding, and if the bytes are no frame; `Memory` if memory was refused;
-    /// `Failed` if an earlier feed had a fault. After each of them every call returns `Failed`.
+    /// if a Welcome is of the other kind of store (wide or ordinary) than the greeting, or has a
+    /// profile that is no form of these records, sizes beyond the limits or version 0; `BadReply`
+    /// if a reply is none that the outstanding call can have, if no call is outstanding, and if
+    /// the bytes are no frame; `Memory` if memory was refused; `Failed` if an earlier feed had a
+    /// fault. After each of them every call returns `Failed`.
     pub fn feed(&mut self, piece: &[u8]) -> Fed
         ensures { FeedsClient self.old piece.now result.out.items result.events.items result.fault
             self.new }

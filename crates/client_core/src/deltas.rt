@@ -10,7 +10,7 @@ ghost use Rattle.client_core.specs.Replies.{
   is_delta,
   row_numbers,
   with_current,
-  with_rows,
+  with_rows_replaced,
 };
 ghost use Rattle.client_core.specs.Kinds.{takes_delta, takes_no_delta};
 
@@ -101,7 +101,7 @@ fn is_ascending(rows: &Rows, limit: usize) -> bool
 fn put_rows(matrix: &mut Matrix, rows: &Rows)
     requires below { are_ascending 0 matrix.old.rows (row_numbers rows.now) ≡ true }
     requires len { rows.now.dimension ≡ matrix.old.cols }
-    ensures { matrix.new ≡ with_rows matrix.old (rows_in rows.now) }
+    ensures { matrix.new ≡ with_rows_replaced matrix.old (rows_in rows.now) }
 {
     for j in 0..rows.len() {
         let (number, words) = rows.row(j);

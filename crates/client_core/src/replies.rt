@@ -8,7 +8,7 @@ ghost use Rattle.client_core.specs.States.{IsState, IsKnown, shape_known};
 ghost use Rattle.client_core.specs.Replies.{
   faulty,
   ended,
-  more_parts,
+  reaction_to_part,
   reaction_to_stale,
   is_current,
   with_current,
@@ -23,7 +23,7 @@ ghost use Rattle.client_core.specs.Kinds.{
   event_of,
 };
 
-use crate::calls::Retrieval;
+use crate::calls::AskedRecord;
 use crate::parts::Parts;
 use crate::state::{Call, ClientFault, ClientState, Event, Hint, Reaction, ServerInfo};
 use frame_codec::{Bytes, Words};
@@ -133,9 +133,9 @@ fn continue_sync(
     requires known { IsKnown known.now }
     requires part { part < 2 ^ 31 }
     ensures state { state.new ≡
-        (more_parts scheme known.now state.old version part state.old.parts).state }
+        (reaction_to_part scheme known.now state.old version part state.old.parts).state }
     ensures reaction { result ≡
-        (more_parts scheme known.now state.old version part state.old.parts).reaction }
+        (reaction_to_part scheme known.now state.old version part state.old.parts).reaction }
 {
     if state.parts.len() != hint_len(scheme, &known.layout(), known.dimension()) {
         let part = part + 1;
@@ -169,7 +169,7 @@ fn read_answer<K: Kernel>(
     known: &ServerInfo,
     hint: &Hint,
     seed: &[u8; 32],
-    asked: Retrieval,
+    asked: AskedRecord,
     words: &[u32],
 ) -> Result<Event, AllocError>
     requires known { IsKnown known.now }
@@ -184,7 +184,7 @@ fn read_answer<K: Kernel>(
         (reading hint.now.scheme (shape_known known.now) hint.now.matrix seed.now asked.number
         asked.index words.now)) }
 {
-    let Retrieval {
+    let AskedRecord {
         index,
         version,
         number,
@@ -246,7 +246,7 @@ pub(crate) fn take_answer<K: Kernel>(
     if scheme != hint.scheme.byte() || version != asked || words.len() != wanted {
         return Ok(fails(state, ClientFault::BadReply));
     }
-    let asked = Retrieval {
+    let asked = AskedRecord {
         index,
         version,
         number,

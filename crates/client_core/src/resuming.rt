@@ -3,7 +3,7 @@
 ghost use Rattle.std.specs.Prelude.{◌≡◌, ◌≤◌, ◌↔◌, IsTrue};
 ghost use Rattle.pir_schemes.specs.Retrievals.{hint_rows as rows_of_hint};
 ghost use Rattle.client_core.specs.States.{IsKnown, shape_known};
-ghost use Rattle.client_core.specs.Resuming.{HasBecome, IsHintFor, MayHold};
+ghost use Rattle.client_core.specs.Resuming.{HasBecome, IsHintFor, MayResumeWith};
 
 use crate::state::{Hint, ServerInfo};
 use pir_schemes::hint_rows;
@@ -40,7 +40,7 @@ fn is_hint_for(now: &ServerInfo, hint: &Hint) -> bool
 /// Whether a client that knows this now may go on with the hint saved.
 pub(crate) fn may_hold(now: &ServerInfo, known: &Option<ServerInfo>, hint: &Option<Hint>) -> bool
     requires { IsKnown now.now }
-    ensures { IsTrue result ↔ MayHold now.now known.now hint.now }
+    ensures { IsTrue result ↔ MayResumeWith now.now known.now hint.now }
 {
     match known {
         None => false,

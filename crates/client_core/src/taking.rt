@@ -5,7 +5,7 @@ ghost use Rattle.std.specs.Prelude.{None};
 ghost use Rattle.std.specs.List.{flat_map, AllByRecursion};
 ghost use Rattle.frame_codec.specs.declared.frame.Frame.{Frame};
 ghost use Rattle.frame_codec.specs.Frames.{IsFrame, encoding};
-ghost use Rattle.client_core.specs.States.{IsState, Keeps};
+ghost use Rattle.client_core.specs.States.{IsState, KeepsNumber};
 ghost use Rattle.client_core.specs.Replies.{reaction_to_reply};
 ghost use Rattle.client_core.specs.Feeding.{sends_of, events_of, fault_of, takes_all, ends_with};
 ghost use Rattle.client_core.specs.Feeding.{codec_fault, Follows, BreaksOff};
@@ -144,7 +144,7 @@ fn take_one<K: Kernel>(
         (reaction_to_reply state.old frame.now).reaction) }
     ensures unwritten { OnErr result (out.new.items ≡ out.old.items) }
     ensures untold { OnErr result (events.new.items ≡ events.old.items) }
-    ensures keeps { Keeps state.old state.new }
+    ensures keeps { KeepsNumber state.old state.new }
 {
     let reaction = take_frame(alloc, kernel, state, frame)?;
     react(reaction, out, events)

@@ -1,6 +1,6 @@
 //! The file of a hint, as what a file is to hold.
 
-use hint_file::{HintFile, WriteFault};
+use hint_file::{HintFile, HintWriteFault};
 use safe_files::{Content, ContentFault};
 use std::alloc::Global;
 use std::io::Write;
@@ -18,8 +18,8 @@ impl Content for HintContent<'_> {
     fn write_to<W: Write>(&self, alloc: Global, writer: &mut W) -> Result<(), ContentFault> {
         match self.0.write_to(alloc, writer) {
             Ok(()) => Ok(()),
-            Err(WriteFault::Write) => Err(ContentFault::Write),
-            Err(WriteFault::Memory) => Err(ContentFault::Memory),
+            Err(HintWriteFault::Write) => Err(ContentFault::Write),
+            Err(HintWriteFault::Memory) => Err(ContentFault::Memory),
         }
     }
 }

@@ -56,7 +56,7 @@ impl From<ReplaceFault> for FolderFault {
     }
 }
 
-/// The fault that reading a hint ends with, when its file can't be opened.
+/// The fault that reading a hint ends with, when its file can't be opened, or not be finished.
 pub fn read_fault(fault: FolderFault) -> HintError {
     match fault {
         FolderFault::Memory => HintError::Memory,

@@ -1,3 +1,4 @@
+pub mod Given
 pub mod Secrets
 pub mod Statuses
 pub mod Values

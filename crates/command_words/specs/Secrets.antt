@@ -53,16 +53,16 @@ IsReadAs takes text (Err (Fault name)) = (IsUtf8 text → ⊥) × (name.now ≡ 
 IsReadAs takes text (Err _) = ⊥
 
 -- what comes of a file that can't be read
-abbrev pub IsUnread : Result (List ℕ) Failure → Type 0
-IsUnread (Err (Fault name)) = name.now ≡ codes "File"
-IsUnread _ = ⊥
+abbrev pub IsUnreadFile : Result (List ℕ) Failure → Type 0
+IsUnreadFile (Err (Fault name)) = name.now ≡ codes "File"
+IsUnreadFile _ = ⊥
 
 -- the bytes on the line itself are the seed; else what comes of the file, given which bytes each
 -- file begins with and which can't be read
 abbrev pub GivesSeed : (List ℕ → List ℕ → Type 0) → (List ℕ → Type 0) → List ℕ → Secret → Result (List ℕ) Failure → Type 0
 GivesSeed begins fails takes (Bytes bytes) result = result ≡ Ok bytes
 GivesSeed begins fails takes (File name) result =
-    ((text : List ℕ) × begins name.now text × IsReadAs takes text result) ⊎ (fails name.now × IsUnread result)
+    ((text : List ℕ) × begins name.now text × IsReadAs takes text result) ⊎ (fails name.now × IsUnreadFile result)
 
 -- what a seed is as a key: itself, and `Value` if all its bytes are 0
 abbrev pub IsKeyOf : List ℕ → Result (List ℕ) Failure → Result (List ℕ) Failure → Type 0

@@ -1,7 +1,7 @@
 //! Reads and writes, in the order in which they are made.
 
 ghost use Rattle.std.specs.Prelude.{◌≡◌, ◌≤◌, ◌<◌, ℕ, length, take, IfOk, OnOk, OnErr, ⊤};
-ghost use Rattle.connection_io.specs.Calls.{Call, read_call, write_call, Sends, SendsUntilFault};
+ghost use Rattle.connection_io.specs.Calls.{IoCall, io_read, io_write, Sends, SendsUntilFault};
 
 use crate::pieces::{ReadFailed, WriteFailed};
 
@@ -11,20 +11,20 @@ use crate::pieces::{ReadFailed, WriteFailed};
 /// did is known from the call alone.
 pub trait Connection {
     /// Relates the connection before a call, what came of the call, and the connection after it.
-    ghost does: { Self → Call → Self → Type 0 } = { λ _ _ _. ⊤ };
+    ghost does: { Self → IoCall → Self → Type 0 } = { λ _ _ _. ⊤ };
 
     /// Reads into the start of the buffer, and returns how many bytes came. 0 is the end, if there
     /// is room.
     fn read(&mut self, buffer: &mut [u8]) -> Result<usize, ReadFailed>
         ensures within { IfOk result (λ n. n ≤ length buffer.new) }
-        ensures did { does self.old (read_call result buffer.new) self.new };
+        ensures did { does self.old (io_read result buffer.new) self.new };
 
     /// Writes some bytes from their start on, and returns how many were taken: at least one, if
     /// there are any.
     fn write(&mut self, bytes: &[u8]) -> Result<usize, WriteFailed>
         ensures within { IfOk result (λ n. n ≤ length bytes.now) }
         ensures some { IfOk result (λ n. 0 < length bytes.now → 0 < n) }
-        ensures did { does self.old (write_call result bytes.now) self.new };
+        ensures did { does self.old (io_write result bytes.now) self.new };
 }
 
 /// Reads a piece into the start of the buffer, in one read, and returns how many bytes it has. 0 is
@@ -35,7 +35,7 @@ pub trait Connection {
 /// `ReadFailed` exactly when the read failed.
 pub fn receive<C: Connection>(connection: &mut C, buffer: &mut Vec<u8>) -> Result<usize, ReadFailed>
     ensures within { IfOk result (λ n. n ≤ length buffer.new.items) }
-    ensures did { C.does connection.old (read_call result buffer.new.items) connection.new }
+    ensures did { C.does connection.old (io_read result buffer.new.items) connection.new }
     ensures room { length buffer.new.items ≡ length buffer.old.items }
 {
     connection.read(buffer)

@@ -4,7 +4,7 @@ use Rattle.std.proofs.Common.{◌≡◌, ◌<◌, ◌≤◌, ◌+◌, ◌-◌, �
 use Rattle.std.proofs.lemmas.List.{get_or-set_same, get_or_default, length-set}
 use Rattle.std.proofs.lemmas.List.Sums.{sum_by-set}
 use Rattle.std.specs.List.{IsFirstMaxByKey}
-use Rattle.connection_table.specs.declared.connection.Connection.{Connection}
+use Rattle.connection_table.specs.declared.connection.ServedConnection.{ServedConnection}
 use Rattle.connection_table.specs.Places.{connection_at, held_bytes, all_held}
 
 sum_of : (s all filled after own u free size : ℕ) → s ≡ all → filled + free ≡ all + own → free ≡ 0 → after + size ≡ filled + 0 → size ≡ u → own ≤ u → s - (u - own) ≡ after
@@ -12,7 +12,7 @@ sum_of s all filled after own u free size a b c d e f = omega arith
 
 -- the most that is held for one is no less than what is held for a connection that was put into a
 -- place
-pub largest_is_no_less : (places : List (Option Connection)) (place : ℕ) (c : Connection) (best : ℕ) (x : Option Connection) → place < length places
+pub largest_is_no_less : (places : List (Option ServedConnection)) (place : ℕ) (c : ServedConnection) (best : ℕ) (x : Option ServedConnection) → place < length places
     → IsFirstMaxByKey held_bytes (set places place (Some c)) (length (set places place (Some c))) best
     → x ≡ get_or (set places place (Some c)) best x → c.held ≤ held_bytes x
 largest_is_no_less places place c best x within max is =
@@ -20,12 +20,12 @@ largest_is_no_less places place c best x within max is =
     let there : place < length filled = subst (λ n. place < n) (sym (length-set places place (Some c))) within in
     let le : held_bytes (get_or filled place x) ≤ held_bytes (get_or filled best x) = max.1 place x there in
     let own : c.held ≤ held_bytes (get_or filled best x) =
-    subst (λ (o : Option Connection). held_bytes o ≤ held_bytes (get_or filled best x)) (get_or-set_same places place (Some c) x within) le in
-    subst (λ (o : Option Connection). c.held ≤ held_bytes o) (sym is) own
+    subst (λ (o : Option ServedConnection). held_bytes o ≤ held_bytes (get_or filled best x)) (get_or-set_same places place (Some c) x within) le in
+    subst (λ (o : Option ServedConnection). c.held ≤ held_bytes o) (sym is) own
 
 -- what is held for all after a connection was put into a free place and the one with the most was
 -- taken away
-pub sum_without_largest : (places : List (Option Connection)) (place : ℕ) (c : Connection) (best : ℕ) (x : Option Connection) (s : ℕ) → place < length places
+pub sum_without_largest : (places : List (Option ServedConnection)) (place : ℕ) (c : ServedConnection) (best : ℕ) (x : Option ServedConnection) (s : ℕ) → place < length places
     → connection_at places place ≡ None
     → IsFirstMaxByKey held_bytes (set places place (Some c)) (length (set places place (Some c))) best
     → x ≡ get_or (set places place (Some c)) best x → s ≡ all_held places

@@ -3,19 +3,19 @@ use Rattle.std.proofs.Common.{◌≡◌, ℕ, refl, sym, subst, ◌∙◌}
 use Rattle.server_core.specs.Cores.{Core, session_of}
 use Rattle.connection_table.specs.Holding.{held_by}
 use Rattle.connection_table.specs.Judging.{GoesOn, IsIdle}
-use Rattle.connection_table.specs.declared.connection.Connection.{Connection}
+use Rattle.connection_table.specs.declared.connection.ServedConnection.{ServedConnection}
 use Rattle.connection_table.specs.declared.connection.TurnResult.{TurnResult}
 use Rattle.connection_table.specs.declared.connection.TurnResult.TheVariants.{Busy, PutOff, Waits, Over, Closed}
 use Rattle.connection_table.specs.declared.report.Closing.TheVariants.{Idle}
 
 -- how much is held is noted right after it was noted right and neither it nor what it counts has
 -- changed
-pub stays_noted : (core : Core) (before noted after : Connection) → noted ≡ record before { held = held_by (session_of core.sessions before.id) before.state }
+pub stays_noted : (core : Core) (before noted after : ServedConnection) → noted ≡ record before { held = held_by (session_of core.sessions before.id) before.state }
     → after.held ≡ noted.held → after.id ≡ noted.id → after.state ≡ noted.state → after.held ≡ held_by (session_of core.sessions after.id) after.state
 stays_noted core before noted after is held id state =
     subst (λ n. after.held ≡ held_by (session_of core.sessions n) after.state) (sym id)
     (subst (λ l. after.held ≡ held_by (session_of core.sessions noted.id) l) (sym state)
-    (held ∙ subst (λ (k : Connection). k.held ≡ held_by (session_of core.sessions k.id) k.state) (sym is) refl))
+    (held ∙ subst (λ (k : ServedConnection). k.held ≡ held_by (session_of core.sessions k.id) k.state) (sym is) refl))
 
 -- what a turn came to stays if the connection is over
 pub stays_over : (o r j : TurnResult) → ((GoesOn o → ⊥) → r ≡ o) → ((GoesOn r → ⊥) → j ≡ r) → (GoesOn o → ⊥) → j ≡ o
@@ -30,7 +30,7 @@ either_end P Over first second = second (λ h. h)
 either_end P (Closed why) first second = second (λ h. h)
 
 -- a connection that goes on as it was judged is not idle
-pub judged_active : (o r : TurnResult) (c : Connection) (now idle : ℕ) → (GoesOn o → IsIdle c now idle → r ≡ Closed Idle) → ((GoesOn o → ⊥) → r ≡ o)
+pub judged_active : (o r : TurnResult) (c : ServedConnection) (now idle : ℕ) → (GoesOn o → IsIdle c now idle → r ≡ Closed Idle) → ((GoesOn o → ⊥) → r ≡ o)
     → GoesOn r → IsIdle c now idle → ⊥
 judged_active o r c now idle closes over g i = either_end ⊥ o
     (λ on. subst GoesOn (closes on i) g)

@@ -2,7 +2,7 @@
 use Rattle.std.specs.Prelude.{ℕ, List, Bool, false, ◌&&◌, Option, None, Some, cond, is_none, nat_eq}
 use Rattle.std.specs.List.{count_by}
 use Rattle.service_watch.specs.declared.replies.ReplyHead.{ReplyHead}
-use Rattle.connection_table.specs.declared.connection.Connection.{Connection}
+use Rattle.connection_table.specs.declared.connection.ServedConnection.{ServedConnection}
 
 -- whether a reply says that what was asked for is done
 abbrev pub is_done : Option ReplyHead → Bool
@@ -20,10 +20,10 @@ is_number n None = false
 is_number n (Some m) = nat_eq m n
 
 -- whether a connection's session has edited the draft of a version, and goes on
-abbrev pub edits : ℕ → Option Connection → Bool
+abbrev pub edits : ℕ → Option ServedConnection → Bool
 edits version None = false
 edits version (Some c) = is_none c.lingers && is_number version c.watch.edited
 
 -- how many connections there are of such sessions
-abbrev pub editor_count : ℕ → List (Option Connection) → ℕ
+abbrev pub editor_count : ℕ → List (Option ServedConnection) → ℕ
 editor_count version places = count_by (edits version) places

@@ -1,13 +1,13 @@
 -- When the writing of a connection is ended as its service stops.
 use Rattle.std.specs.Prelude.{◌≡◌, ◌+◌, ◌-◌, ◌^◌, ◌⊎◌, ℕ, None, Some, false, min}
 use Rattle.connection_turns.specs.Links.{MayRead}
-use Rattle.connection_table.specs.declared.connection.Connection.{Connection}
+use Rattle.connection_table.specs.declared.connection.ServedConnection.{ServedConnection}
 use Rattle.connection_table.specs.declared.connection.TurnResult.{TurnResult}
 use Rattle.connection_table.specs.declared.connection.TurnResult.TheVariants.{Over, Waits}
 
 -- Nothing of a connection is left to be served: all that came was read and served, no frame is
 -- unfinished, and nothing is owed.
-pub record IsQuiet (c : Connection) : Type 0 where
+pub record IsServedOut (c : ServedConnection) : Type 0 where
   pub stays : c.lingers ≡ None
   pub all_read : c.readable ≡ false
   pub all_served : MayRead c.state
@@ -15,7 +15,7 @@ pub record IsQuiet (c : Connection) : Type 0 where
 
 -- The writing of a connection was ended at a moment, which is over then, or still read from for two
 -- seconds.
-abbrev pub EndsWriting : ℕ → Connection → Connection → TurnResult → Type 0
+abbrev pub EndsWriting : ℕ → ServedConnection → ServedConnection → TurnResult → Type 0
 EndsWriting now old new outcome =
     ((new ≡ old) × (outcome ≡ Over))
     ⊎ ((new ≡ record old { lingers = Some (min (now + 2000) (2 ^ 64 - 1)) }) × (outcome ≡ Waits))

@@ -1,7 +1,7 @@
 -- When something is to be done for a connection, and what becomes of it after a turn.
 use Rattle.std.specs.Prelude.{◌≡◌, ◌≤◌, ◌+◌, ◌-◌, ◌^◌, ℕ, None, min, unwrap_or}
 use Rattle.connection_turns.specs.Links.{MayServe}
-use Rattle.connection_table.specs.declared.connection.Connection.{Connection}
+use Rattle.connection_table.specs.declared.connection.ServedConnection.{ServedConnection}
 use Rattle.connection_table.specs.declared.connection.TurnResult.{TurnResult}
 use Rattle.connection_table.specs.declared.connection.TurnResult.TheVariants.{Busy, PutOff, Waits}
 
@@ -21,12 +21,12 @@ HasMore _ = ⊥
 
 -- no frame of a connection that is not over may be served, and there was no progress for so many
 -- milliseconds
-pub record IsIdle (c : Connection) (now idle : ℕ) : Type 0 where
+pub record IsIdle (c : ServedConnection) (now idle : ℕ) : Type 0 where
   pub stays : c.lingers ≡ None
   pub nothing : MayServe c.state → ⊥
   pub late : idle ≤ now - c.state.progress
 
 -- the moment at which something is to be done for a connection even if no event comes: its end, or
 -- that at which it is idle
-abbrev pub due_of : ℕ → Connection → ℕ
+abbrev pub due_of : ℕ → ServedConnection → ℕ
 due_of idle c = unwrap_or c.lingers (min (c.state.progress + idle) (2 ^ 64 - 1))

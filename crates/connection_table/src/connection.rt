@@ -5,7 +5,7 @@ ghost use Rattle.server_core.specs.Cores.{session_of};
 ghost use Rattle.connection_turns.specs.Runs.{OthersStay};
 ghost use Rattle.connection_table.specs.Holding.{held_by};
 ghost use Rattle.connection_table.specs.Judging.{GoesOn, HasMore, IsIdle, due_of};
-ghost use Rattle.connection_table.specs.Ending.{EndsWriting, IsQuiet};
+ghost use Rattle.connection_table.specs.Ending.{EndsWriting, IsServedOut};
 
 use crate::device::{Device, Saver};
 use crate::report::{Closing, RunFault};
@@ -23,7 +23,7 @@ const LINGER: u64 = 2_000;
 /// A socket, and what is kept for it. A flag is put out when a call would have waited, and set by
 /// an event.
 #[derive(Drop)]
-pub struct Connection {
+pub struct ServedConnection {
     /// The socket.
     pub stream: TcpStream,
     /// The peer's address.
@@ -86,7 +86,7 @@ impl TurnResult {
     }
 }
 
-impl Connection {
+impl ServedConnection {
     /// A connection that was accepted, has a session of this number, and will have its turn.
     pub fn opened(
         stream: TcpStream,
@@ -94,7 +94,7 @@ impl Connection {
         peer: [u8; 16],
         id: u64,
         state: ConnectionState,
-    ) -> Connection
+    ) -> ServedConnection
         ensures { result ≡ record {
           stream = stream;
           address = address;
@@ -109,7 +109,7 @@ impl Connection {
           watch = result.watch;
         } }
     {
-        Connection {
+        ServedConnection {
             stream,
             address,
             peer,
@@ -189,8 +189,8 @@ impl Connection {
     pub fn retired(&mut self, now: u64, stops: bool, outcome: TurnResult) -> TurnResult
         ensures serves { stops ≡ false → (self.new ≡ self.old) × (result ≡ outcome) }
         ensures over { (GoesOn outcome → ⊥) → (self.new ≡ self.old) × (result ≡ outcome) }
-        ensures begun { (IsQuiet self.old → ⊥) → (self.new ≡ self.old) × (result ≡ outcome) }
-        ensures ends { stops ≡ true → GoesOn outcome → IsQuiet self.old →
+        ensures begun { (IsServedOut self.old → ⊥) → (self.new ≡ self.old) × (result ≡ outcome) }
+        ensures ends { stops ≡ true → GoesOn outcome → IsServedOut self.old →
             EndsWriting now self.old self.new result }
         ensures id { self.new.id ≡ self.old.id }
         ensures state { self.new.state ≡ self.old.state }
@@ -206,7 +206,7 @@ impl Connection {
 
     // Whether nothing of it is left to be served.
     fn is_quiet(&self) -> bool
-        ensures { IsTrue result ↔ IsQuiet self.now }
+        ensures { IsTrue result ↔ IsServedOut self.now }
     {
         self.lingers.is_none() && !self.readable && self.state.may_read() && self.held == 0
     }

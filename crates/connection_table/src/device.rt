@@ -4,7 +4,7 @@ ghost use Rattle.std.specs.Prelude.{◌≡◌, ◌<◌, ◌+◌, ◌^◌, ℕ, I
 
 use crate::tallies::Tallies;
 use crate::watch::Watch;
-use connection_turns::{AppendFailed, Outside, SaveFailed, Stop};
+use connection_turns::{AppendFailed, Outside, SaveFailed, SocketStop};
 use lane_kernels::Lanes;
 use mio::net::TcpStream;
 use service_status::micros_since;
@@ -76,9 +76,9 @@ impl<S: Saver> Outside<Lanes> for Device<'_, S> {
         self.saver.take_back(self.rt, store)
     }
 
-    fn read(&mut self, buffer: &mut [u8]) -> Result<usize, Stop> {
+    fn read(&mut self, buffer: &mut [u8]) -> Result<usize, SocketStop> {
         if !self.readable {
-            return Err(Stop::Later);
+            return Err(SocketStop::Later);
         }
         let mut stream = self.stream;
         match stream.read(buffer) {
@@ -96,17 +96,17 @@ impl<S: Saver> Outside<Lanes> for Device<'_, S> {
         }
     }
 
-    fn write(&mut self, _store: &Store<Lanes>, bytes: &[u8]) -> Result<usize, Stop> {
+    fn write(&mut self, _store: &Store<Lanes>, bytes: &[u8]) -> Result<usize, SocketStop> {
         if bytes.is_empty() {
             return Ok(0);
         }
         self.watch.look(bytes);
         if !self.writable {
-            return Err(Stop::Later);
+            return Err(SocketStop::Later);
         }
         let mut stream = self.stream;
         match stream.write(bytes) {
-            Ok(0) => Err(Stop::Failed),
+            Ok(0) => Err(SocketStop::Failed),
             Ok(n) => {
                 self.watch.wrote(n);
                 self.counters.add(Counted::BytesOut, n as u64);
@@ -126,10 +126,10 @@ fn must_wait(e: &Error) -> bool {
 }
 
 // Why a call gave nothing. One that a signal interrupted is made again in the next turn.
-fn stop_of(e: &Error) -> Stop {
+fn stop_of(e: &Error) -> SocketStop {
     if must_wait(e) || e.kind() == ErrorKind::Interrupted {
-        Stop::Later
+        SocketStop::Later
     } else {
-        Stop::Failed
+        SocketStop::Failed
     }
 }

@@ -17,7 +17,7 @@ mod tallies;
 mod turning;
 mod watch;
 
-pub use connection::{Connection, TurnResult};
+pub use connection::{ServedConnection, TurnResult};
 pub use device::Saver;
 pub use report::{Closing, RunFault};
 pub use saved_server::SavedServer;

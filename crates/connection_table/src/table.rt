@@ -10,7 +10,7 @@ ghost use Rattle.connection_table.specs.Places.{connection_at, held_bytes, owed_
 ghost use Rattle.connection_table.specs.Places.{all_owed, noted, LosesLargest, open_count};
 ghost use Rattle.connection_table.specs.Watching.{is_of, peer_count};
 
-use crate::connection::Connection;
+use crate::connection::ServedConnection;
 use std::alloc::{AllocError, Global};
 
 /// A place for each connection that there may be at once. Between two calls no more bytes are held
@@ -18,7 +18,7 @@ use std::alloc::{AllocError, Global};
 #[derive(Drop)]
 pub struct ConnectionTable {
     /// The connection at each place.
-    pub connections: Vec<Option<Connection>>,
+    pub connections: Vec<Option<ServedConnection>>,
     /// How many bytes may be held for all connections.
     pub memory: usize,
     /// How many are held.
@@ -185,7 +185,7 @@ impl ConnectionTable {
     }
 
     /// Takes the connection at a place away.
-    pub fn take(&mut self, place: usize) -> Option<Connection>
+    pub fn take(&mut self, place: usize) -> Option<ServedConnection>
         ensures taken { result ≡ connection_at self.old.connections.items place }
         ensures places { self.new.connections.items ≡
             slice_set self.old.connections.items place None }
@@ -202,7 +202,7 @@ impl ConnectionTable {
 
     /// Puts a connection into a free place. If too many bytes are held for all then, the one for
     /// which most are held is taken away.
-    pub fn put(&mut self, place: usize, connection: Connection) -> Option<Connection>
+    pub fn put(&mut self, place: usize, connection: ServedConnection) -> Option<ServedConnection>
         requires within { place < length self.old.connections.items }
         requires free { connection_at self.old.connections.items place ≡ None }
         ensures room { IfNone result (self.new.connections.items ≡
@@ -228,7 +228,7 @@ impl ConnectionTable {
 }
 
 // Whether a connection is of a peer.
-fn is_of(place: &Option<Connection>, peer: &[u8; 16]) -> bool
+fn is_of(place: &Option<ServedConnection>, peer: &[u8; 16]) -> bool
     ensures { result ≡ is_of peer.now place.now }
 {
     match place {
@@ -238,7 +238,7 @@ fn is_of(place: &Option<Connection>, peer: &[u8; 16]) -> bool
 }
 
 // Whether a connection's session has edited the draft of a version, and goes on.
-fn edits(place: &Option<Connection>, version: u64) -> bool
+fn edits(place: &Option<ServedConnection>, version: u64) -> bool
     ensures { result ≡ edits version place.now }
 {
     match place {
@@ -250,7 +250,7 @@ fn edits(place: &Option<Connection>, version: u64) -> bool
 }
 
 // How many bytes are owed to the connection at a place.
-fn owed_to(place: &Option<Connection>) -> u64
+fn owed_to(place: &Option<ServedConnection>) -> u64
     ensures { result ≡ owed_bytes place.now }
 {
     match place {
@@ -260,7 +260,7 @@ fn owed_to(place: &Option<Connection>) -> u64
 }
 
 // How many bytes are held for the connection at a place.
-fn held_at(place: &Option<Connection>) -> usize
+fn held_at(place: &Option<ServedConnection>) -> usize
     ensures { result ≡ held_bytes place.now }
 {
     match place {
@@ -270,7 +270,7 @@ fn held_at(place: &Option<Connection>) -> usize
 }
 
 // The first of the places of those connections for which most is held.
-fn largest(connections: &[Option<Connection>]) -> usize
+fn largest(connections: &[Option<ServedConnection>]) -> usize
     requires { 0 < length connections.now }
     ensures { IsFirstMaxByKey held_bytes connections.now (length connections.now) result }
 {

@@ -1,7 +1,7 @@
 //! What was counted of a service, and how long its turns took.
 
 ghost use Rattle.std.specs.Prelude.{◌≡◌, ◌≢◌, ◌++◌, ◌∷◌, ◌-◌, [], ℕ, List, None, IfSome};
-ghost use Rattle.service_watch.specs.Counts.{Amount, IsTally, slot_of};
+ghost use Rattle.service_watch.specs.Counts.{Amount, IsTally, counter_slot};
 ghost use Rattle.service_watch.specs.Durations.{IsSpread};
 ghost use Rattle.connection_table.specs.Timing.{time_of};
 
@@ -76,7 +76,7 @@ impl Tallies {
     pub fn add(&mut self, what: Counted, amount: u64)
         ensures tally { (events : List Amount) → IsTally self.old.counts.counts events →
             IsTally self.new.counts.counts
-            (events ++ record { slot = slot_of what; much = amount } ∷ []) }
+            (events ++ record { slot = counter_slot what; much = amount } ∷ []) }
         ensures rest { self.new ≡ record self.old { counts = self.new.counts } }
     {
         self.counts.add(what, amount);
@@ -89,7 +89,8 @@ impl Tallies {
         ensures none { reply ≡ None → self.new ≡ self.old }
         ensures counts { IfSome reply (λ r. (events : List Amount) →
             IsTally self.old.counts.counts events → IsTally self.new.counts.counts
-            (events ++ record { slot = slot_of (Counted.Reply r.kind r.first); much = 1 } ∷ [])) }
+            (events ++
+            record { slot = counter_slot (Counted.Reply r.kind r.first); much = 1 } ∷ [])) }
         ensures waited { IfSome reply (λ r. (times : List ℕ) →
             IsSpread self.old.waited.bins self.old.waited.sum times →
             IsSpread self.new.waited.bins self.new.waited.sum

@@ -3,12 +3,12 @@
 ghost use Rattle.std.specs.Prelude.{◌≡◌, ◌++◌, ◌∷◌, [], List, None, IfOk, IfSome, false};
 ghost use Rattle.server_core.specs.Cores.{session_of};
 ghost use Rattle.connection_turns.specs.Runs.{OthersStay};
-ghost use Rattle.service_watch.specs.Counts.{Amount, IsTally, slot_of};
+ghost use Rattle.service_watch.specs.Counts.{Amount, IsTally, counter_slot};
 ghost use Rattle.connection_table.specs.Holding.{held_by};
 ghost use Rattle.connection_table.specs.Judging.{GoesOn, IsIdle};
 ghost use Rattle.connection_table.specs.Watching.{published_between};
 
-use crate::connection::{Connection, TurnResult};
+use crate::connection::{ServedConnection, TurnResult};
 use crate::device::Saver;
 use crate::report::RunFault;
 use crate::saved_server::SavedServer;
@@ -18,13 +18,13 @@ use service_status::{micros_since, unix_millis};
 use service_watch::Counted;
 use std::time::Instant;
 
-impl Connection {
+impl ServedConnection {
     /// Makes a turn, counts it, and notes what was seen of it. Its moments are those since the
     /// start.
     ///
     /// # Errors
     ///
-    /// Those of [`Connection::take_turn`].
+    /// Those of [`ServedConnection::take_turn`].
     pub fn take_counted_turn<S: Saver + Drop>(
         &mut self,
         rt: &HostRuntime,
@@ -81,7 +81,7 @@ fn count_turn(rt: &HostRuntime, tallies: &mut Tallies, watch: &Watch, turn: Turn
         tallies.new ≡ tallies.old }
     ensures counts { IfSome watch.now.reply (λ r. (events : List Amount) →
         IsTally tallies.old.counts.counts events → IsTally tallies.new.counts.counts
-        (events ++ record { slot = slot_of (Counted.Reply r.kind r.first); much = 1 } ∷ [])) }
+        (events ++ record { slot = counter_slot (Counted.Reply r.kind r.first); much = 1 } ∷ [])) }
 {
     tallies.note_turn(turn, watch.reply);
     if watch.published.is_some() {

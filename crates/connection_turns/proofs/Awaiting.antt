@@ -5,7 +5,7 @@ use Rattle.std.specs.List.{FoldsTo}
 use Rattle.std.proofs.lemmas.Bool.{lt-ltb, ltb-true, eq-eqb}
 use Rattle.std.proofs.lemmas.List.{length-append, length-drop, nil_from_length}
 use Rattle.std.proofs.lemmas.Bool.{cases_lt}
-use Rattle.connection_turns.specs.Links.{ConnectionSeen, Move, Receives, Ends, Answers, Writes, MovesTo, IsAwaited, LinksAwait, accepted, is_progress}
+use Rattle.connection_turns.specs.Links.{ConnectionSeen, ConnectionMove, Receives, Ends, Answers, Writes, MovesTo, IsAwaited, ConnectionsAwait, accepted, is_progress}
 
 -- a write leaves all else as it was
 pub write_keeps : (b : Bool) (n now : ℕ) (l : ConnectionSeen)
@@ -60,7 +60,7 @@ written false n now l m k less e =
 lt_of : (n a : ℕ) → nat_lt n a ≡ true → n < a
 lt_of n a e = ltb-true n a e
 
-awaits_one : (l : ConnectionSeen) (x : Move) (m : ConnectionSeen) → IsAwaited l → MovesTo l x m → IsAwaited m
+awaits_one : (l : ConnectionSeen) (x : ConnectionMove) (m : ConnectionSeen) → IsAwaited l → MovesTo l x m → IsAwaited m
 awaits_one l (Receives bytes) m k s = record {
   part = subst (λ (y : ConnectionSeen). y.awaited ≤ length y.owed) (sym s.1) k.part;
   some = subst (λ (y : ConnectionSeen). y.awaited ≡ 0 → y.owed ≡ []) (sym s.1) k.some;
@@ -75,9 +75,9 @@ awaits_one l (Answers piece reply live now) m k s =
 awaits_one l (Writes bytes now) m k s =
     written (nat_lt (length bytes) l.awaited) (length bytes) now l m k (lt_of (length bytes) l.awaited) s.1
 
-awaits_from : (moves : List Move) (l m : ConnectionSeen) → IsAwaited l → FoldsTo MovesTo l moves m → IsAwaited m
+awaits_from : (moves : List ConnectionMove) (l m : ConnectionSeen) → IsAwaited l → FoldsTo MovesTo l moves m → IsAwaited m
 awaits_from [] l m k e = subst IsAwaited e k
 awaits_from (x ∷ moves) l m k (j, step, rest) = awaits_from moves j m (awaits_one l x j k step) rest
 
-pub links_await : LinksAwait
-links_await moves now l f = awaits_from moves (accepted now) l (record { part = omega arith; some = λ z. refl }) f
+pub connections_await : ConnectionsAwait
+connections_await moves now l f = awaits_from moves (accepted now) l (record { part = omega arith; some = λ z. refl }) f

@@ -10,10 +10,10 @@ use Rattle.version_store.specs.Histories.{StoreState, History, StandsFor, undraf
 use Rattle.version_store.proofs.HistoryLemmas.{undraft_stands}
 use Rattle.server_core.specs.Cores.{Core, session_of}
 use Rattle.server_core.specs.Serving.{Setting, setting_of, is_closed}
-use Rattle.server_core.specs.Sessions.{Session, FeedsSession, Fed}
+use Rattle.server_core.specs.Sessions.{Session, FeedsSession, FeedsStore}
 use Rattle.server_core.specs.Laws.{FirstsArePieces}
-use Rattle.connection_turns.specs.Links.{ConnectionSeen, after_frame}
-use Rattle.connection_turns.specs.Runs.{Deed, Opens, Serves, Stops, Closes, Undrafts, DoesToCore, FeedsLink, Moment, ServesOn, RunStep, DeedsAreOneRun}
+use Rattle.connection_turns.specs.Links.{ConnectionSeen, after_served_frame}
+use Rattle.connection_turns.specs.Runs.{Deed, Opens, Serves, Stops, Closes, Undrafts, DoesToCore, FeedsConnection, Moment, ServesOn, RunStep, DeedsAreOneRun}
 use Rattle.connection_turns.specs.Turns.{served_between, replied_between, ServedFramesAreMoves, ServedFramesAreDeeds}
 
 there_is : (o : Option Session) → o ≢ None → (s : Session) × (o ≡ Some s)
@@ -26,7 +26,7 @@ Leads x first h d mid = (h2 : History) × RunStep x (record { core = first; hist
 
 serves_on : (x : Setting) (h : History) (id : ℕ) (piece : List ℕ) (result : Result (Unit {0}) AllocError) (reply : List ℕ) (first mid : Core)
     (s : Session) (is : session_of first.sessions id ≡ Some s) (t : Session) (there : session_of mid.sessions id ≡ Some t)
-    (f : Fed x h s piece result mid.store t [] reply)
+    (f : FeedsStore x h s piece result mid.store t [] reply)
     → ServesOn x (record { core = first; history = h }) id piece result reply (record { core = mid; history = f.history })
 serves_on x h id piece result reply first mid s is t there f = record {
   old = s;
@@ -53,8 +53,8 @@ run_one x first h (Opens id) mid set stands does = (
 run_one x first h (Serves id piece reply) mid set stands does =
     let o = there_is (session_of first.sessions id) does.0 in
     let fed = does.1 h stands o.0 o.1 in
-    let f : Fed x h o.0 piece (Ok tt) mid.store fed.0 [] reply =
-    subst (λ (y : Setting). Fed y h o.0 piece (Ok tt) mid.store fed.0 [] reply) set fed.2 in (
+    let f : FeedsStore x h o.0 piece (Ok tt) mid.store fed.0 [] reply =
+    subst (λ (y : Setting). FeedsStore y h o.0 piece (Ok tt) mid.store fed.0 [] reply) set fed.2 in (
       f.history,
       record {
         setting_is = f.setting_is;
@@ -67,7 +67,7 @@ run_one x first h (Stops id piece) mid set stands does =
     let o = there_is (session_of first.sessions id) does.0 in
     let e = does.1.0 in
     let fed = does.1.1 h stands o.0 o.1 in
-    let f : Fed x h o.0 piece (Err e) mid.store fed.0 [] [] = subst (λ (y : Setting). Fed y h o.0 piece (Err e) mid.store fed.0 [] []) set fed.2 in (
+    let f : FeedsStore x h o.0 piece (Err e) mid.store fed.0 [] [] = subst (λ (y : Setting). FeedsStore y h o.0 piece (Err e) mid.store fed.0 [] []) set fed.2 in (
       f.history,
       record {
         setting_is = f.setting_is;
@@ -120,7 +120,7 @@ replied old new reply e = ap (drop (length old.owed)) e ∙ drop-append_seam old
 pub served_frames_are_deeds : FirstsArePieces → ServedFramesAreDeeds
 served_frames_are_deeds pieces before after id now old new there at others = (there, feeds, others)
   where
-    feeds : FeedsLink id before (served_between old new) (Ok tt) (replied_between old new) after
+    feeds : FeedsConnection id before (served_between old new) (Ok tt) (replied_between old new) after
     feeds h stands s is =
         let n = at h stands s is in
         let x : Setting = setting_of before.store in
@@ -154,7 +154,7 @@ served_frames_are_moves x h s id now old new after n =
     let size : length served ≡ n.count = ap length served_is ∙ length-take-le n.count old.unserved n.within in (
       sym (ap (λ (y : List ℕ). y ++ new.unserved) served_is ∙ ap (λ (y : List ℕ). take n.count old.unserved ++ y) unserved_is
           ∙ take-append-drop n.count old.unserved),
-      n.new_is ∙ ap (λ (k : ℕ). after_frame k reply live now old) (sym size)
-          ∙ ap (λ (r : List ℕ). after_frame (length served) r live now old) (sym reply_is)
-          ∙ ap (λ (b : Bool). after_frame (length served) (replied_between old new) b now old) (sym live_is),
+      n.new_is ∙ ap (λ (k : ℕ). after_served_frame k reply live now old) (sym size)
+          ∙ ap (λ (r : List ℕ). after_served_frame (length served) r live now old) (sym reply_is)
+          ∙ ap (λ (b : Bool). after_served_frame (length served) (replied_between old new) b now old) (sym live_is),
     )

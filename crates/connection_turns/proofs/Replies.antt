@@ -14,7 +14,7 @@ use Rattle.frame_codec.specs.Frames.{IsFrame, encoding}
 use Rattle.frame_codec.proofs.Prefixes.{encoded_length}
 use Rattle.version_store.specs.Histories.{History}
 use Rattle.server_core.specs.declared.standing.Standing.{Standing}
-use Rattle.server_core.specs.Serving.{Setting, Outcome, IsOutcome, ServesAll, is_closed}
+use Rattle.server_core.specs.Serving.{Setting, AfterFrame, IsAfterFrame, ServesAll, is_closed}
 use Rattle.server_core.specs.Sessions.{Session, AfterReading, EndsPiece, ServesFrame, FeedsFirst, frames_taken, reading_end}
 use Rattle.connection_turns.specs.Links.{ConnectionSeen}
 use Rattle.connection_turns.specs.Turns.{OwedIsBounded}
@@ -30,7 +30,7 @@ one_served x h st None h2 st2 replies s = inl s.2
 one_served x h st (Some f) h2 st2 replies s = by_state (is_closed st) s
   where
     by_state : (b : Bool) → MatchBool b ((h2 ≡ h) × (st2 ≡ st) × (replies ≡ []))
-        ((o : Outcome) × (others : List Frame) × IsOutcome x h st f o × (replies ≡ option_to_list o.reply ++ others)
+        ((o : AfterFrame) × (others : List Frame) × IsAfterFrame x h st f o × (replies ≡ option_to_list o.reply ++ others)
         × ServesAll x o.history o.standing [] h2 st2 others) → (replies ≡ []) ⊎ ((f : Frame) × (replies ≡ f ∷ []))
     by_state true m = inl m.2
     by_state false m =

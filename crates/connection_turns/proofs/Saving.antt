@@ -1,7 +1,7 @@
 -- That no byte is written while what is served is not what is there after a crash.
 use Rattle.std.proofs.Common.{◌≡◌, ◌+◌, ◌-◌, ℕ, List, [], ◌∷◌, ◌++◌, Result, Ok, Err, inl, inr, refl, sym, ap, subst, arith}
 use Rattle.server_core.specs.Cores.{Core}
-use Rattle.connection_turns.specs.Calls.{Call, Read, ReadLater, ReadFails, Write, WriteLater, WriteFails, Append, AppendUndone, AppendLost, TakeBack, TakeBackFails}
+use Rattle.connection_turns.specs.Calls.{DeviceCall, Read, ReadLater, ReadFails, Write, WriteLater, WriteFails, Append, AppendUndone, AppendLost, TakeBack, TakeBackFails}
 use Rattle.connection_turns.specs.Links.{ConnectionSeen}
 use Rattle.connection_turns.specs.Turns.{ReadsOnce, ServesOnce, Publishes, WritesOnce, TakesTurn, StopsAtFrame}
 use Rattle.connection_turns.specs.Saving.{Notes, saved_after, WritesOnlySaved, SavesBeforeWriting, TurnsSaveBeforeWriting}
@@ -11,15 +11,15 @@ use Rattle.connection_turns.specs.declared.turns.Fault.{Fault}
 use Rattle.connection_turns.specs.declared.turns.Fault.TheVariants as fault
 
 -- calls that write only while a version is there after a crash, and leave another there
-record Leaves (version saved left : ℕ) (calls : List Call) : Type 0 where
+record Leaves (version saved left : ℕ) (calls : List DeviceCall) : Type 0 where
   writes : WritesOnlySaved version saved calls
   left_is : saved_after saved calls ≡ left
 
 -- one call more
-abbrev Adds : ℕ → ℕ → Call → ℕ → Type 0
+abbrev Adds : ℕ → ℕ → DeviceCall → ℕ → Type 0
 Adds version left call next = WritesOnlySaved version left (call ∷ []) × (saved_after left (call ∷ []) ≡ next)
 
-added : (version saved left next : ℕ) (calls : List Call) (call : Call) → Leaves version saved left calls → Adds version left call next →
+added : (version saved left next : ℕ) (calls : List DeviceCall) (call : DeviceCall) → Leaves version saved left calls → Adds version left call next →
     Leaves version saved next (calls ++ call ∷ [])
 added version saved left next [] call l a = subst (λ (s : ℕ). Leaves version s next (call ∷ [])) (sym l.left_is) (record { writes = a.0; left_is = a.1 })
 added version saved left next (Read room bytes ∷ calls) call l a =
@@ -49,23 +49,23 @@ added version saved left next (TakeBackFails v ∷ calls) call l a =
     let m = added version saved left next calls call (record { writes = l.writes; left_is = l.left_is }) a in record { writes = m.writes; left_is = m.left_is }
 
 -- the same of the list that a call leads to
-then_ : (version saved left next : ℕ) (before after : List Call) (call : Call) → Leaves version saved left before → Notes before call after →
+then_ : (version saved left next : ℕ) (before after : List DeviceCall) (call : DeviceCall) → Leaves version saved left before → Notes before call after →
     Adds version left call next → Leaves version saved next after
 then_ version saved left next before after call l n a =
-    subst (λ (calls : List Call). Leaves version saved next calls) (sym n) (added version saved left next before call l a)
+    subst (λ (calls : List DeviceCall). Leaves version saved next calls) (sym n) (added version saved left next before call l a)
 
 none : (version saved : ℕ) → Leaves version saved saved []
 none version saved = record { writes = tt; left_is = refl }
 
-same : (version saved left : ℕ) (before after : List Call) → Leaves version saved left before → after ≡ before → Leaves version saved left after
-same version saved left before after l e = subst (λ (calls : List Call). Leaves version saved left calls) (sym e) l
+same : (version saved left : ℕ) (before after : List DeviceCall) → Leaves version saved left before → after ≡ before → Leaves version saved left after
+same version saved left before after l e = subst (λ (calls : List DeviceCall). Leaves version saved left calls) (sym e) l
 
 -- another number of the same version
-left_of : (version saved left next : ℕ) (calls : List Call) → Leaves version saved left calls → left ≡ next → Leaves version saved next calls
+left_of : (version saved left next : ℕ) (calls : List DeviceCall) → Leaves version saved left calls → left ≡ next → Leaves version saved next calls
 left_of version saved left next calls l e = subst (λ (n : ℕ). Leaves version saved n calls) e l
 
 -- what is read changes nothing
-reads_leave : (version saved : ℕ) (old new : ConnectionSeen) (calls : List Call) → ReadsOnce Notes old [] (Ok tt) new calls → Leaves version saved saved calls
+reads_leave : (version saved : ℕ) (old new : ConnectionSeen) (calls : List DeviceCall) → ReadsOnce Notes old [] (Ok tt) new calls → Leaves version saved saved calls
 reads_leave version saved old new calls (inl nothing) = same version saved saved [] calls (none version saved) nothing.2
 reads_leave version saved old new calls (inr some) = elim some.1 [
   | inl later ↦ then_ version saved saved saved [] calls ReadLater (none version saved) later.0 (tt, refl)
@@ -76,19 +76,19 @@ reads_leave version saved old new calls (inr some) = elim some.1 [
 ]
 
 -- a publication that was appended
-appends_leave : (version saved : ℕ) (answer : Result (Unit {0}) Fault) (id now : ℕ) (old new : ConnectionSeen) (before after : Core) (a b : List Call) →
+appends_leave : (version saved : ℕ) (answer : Result (Unit {0}) Fault) (id now : ℕ) (old new : ConnectionSeen) (before after : Core) (a b : List DeviceCall) →
     Leaves version saved before.store.version a → (p : Publishes Notes id now old before a answer new after b)
     → Leaves version saved (before.store.version + 1) p.appended_by
 appends_leave version saved answer id now old new before after a b l p =
     then_ version saved before.store.version (before.store.version + 1) a p.appended_by (Append (before.store.version + 1)) l p.appends (tt, refl)
 
 -- and was taken back
-back_leaves : (version saved was now : ℕ) (a b : List Call) → Leaves version saved (was + 1) a → Notes a (TakeBack (was + 1)) b → now ≡ was →
+back_leaves : (version saved was now : ℕ) (a b : List DeviceCall) → Leaves version saved (was + 1) a → Notes a (TakeBack (was + 1)) b → now ≡ was →
     Leaves version saved now b
 back_leaves version saved was now a b l n e = then_ version saved (was + 1) now a b (TakeBack (was + 1)) l n (tt, omega (arith, e))
 
 -- a frame that is served, or put off
-serves_leave : (version saved id now : ℕ) (old new : ConnectionSeen) (before after : Core) (served : Served) (a b : List Call) →
+serves_leave : (version saved id now : ℕ) (old new : ConnectionSeen) (before after : Core) (served : Served) (a b : List DeviceCall) →
     Leaves version saved before.store.version a → ServesOnce Notes id now old before a (Ok served) new after b
     → Leaves version saved after.store.version b
 serves_leave version saved id now old new before after Done a b l (inl nothing) =
@@ -109,7 +109,7 @@ serves_leave version saved id now old new before after PutOff a b l nothing =
     (ap (λ (c : Core). c.store.version) (sym nothing.3))
 
 -- what is written is of the version that is there
-writes_leave : (version saved now : ℕ) (old new : ConnectionSeen) (answer : Result (Unit {0}) Fault) (a b : List Call) → Leaves version saved version a →
+writes_leave : (version saved now : ℕ) (old new : ConnectionSeen) (answer : Result (Unit {0}) Fault) (a b : List DeviceCall) → Leaves version saved version a →
     WritesOnce Notes now old a answer new b → Leaves version saved version b
 writes_leave version saved now old new (Ok done) a b l (inl nothing) = same version saved version a b l nothing.2
 writes_leave version saved now old new (Ok done) a b l (inr (inl later)) = then_ version saved version version a b WriteLater l later.0 (tt, refl)
@@ -119,11 +119,11 @@ writes_leave version saved now old new (Err fault.Read) a b l w = absurd w
 writes_leave version saved now old new (Err fault.Memory) a b l w = absurd w
 writes_leave version saved now old new (Err fault.Save) a b l w = absurd w
 
-given : (before after : ℕ) (answer : Result Served Fault) (calls : List Call) → Leaves after before after calls → SavesBeforeWriting before after answer calls
+given : (before after : ℕ) (answer : Result Served Fault) (calls : List DeviceCall) → Leaves after before after calls → SavesBeforeWriting before after answer calls
 given before after answer calls l = record { writes = l.writes; saved = λ n. l.left_is }
 
 takes : (id now : ℕ) (old new : ConnectionSeen) (before after : Core) (served : Served) (answer : Result (Unit {0}) Fault) (said : Result Served Fault)
-    (calls : List Call) → TakesTurn Notes id now old before [] served answer new after calls
+    (calls : List DeviceCall) → TakesTurn Notes id now old before [] served answer new after calls
     → SavesBeforeWriting before.store.version after.store.version said calls
 takes id now old new before after served answer said calls t =
     let r = reads_leave after.store.version before.store.version old t.filled t.read_by t.reads in
@@ -132,7 +132,7 @@ takes id now old new before after served answer said calls t =
     (writes_leave after.store.version before.store.version now t.answered new answer t.served_by calls s t.writes)
 
 -- memory was refused to the frame at hand
-stops_for_memory : (id now : ℕ) (old new : ConnectionSeen) (before after : Core) (calls : List Call) →
+stops_for_memory : (id now : ℕ) (old new : ConnectionSeen) (before after : Core) (calls : List DeviceCall) →
     StopsAtFrame Notes id now old before [] fault.Memory new after calls → SavesBeforeWriting before.store.version after.store.version (Err fault.Memory) calls
 stops_for_memory id now old new before after calls t =
     let v : ℕ = after.store.version in
@@ -146,7 +146,7 @@ stops_for_memory id now old new before after calls t =
     ])
 
 -- nothing is left of a publication that could not be appended
-stops_for_append : (id now : ℕ) (old new : ConnectionSeen) (before after : Core) (calls : List Call) →
+stops_for_append : (id now : ℕ) (old new : ConnectionSeen) (before after : Core) (calls : List DeviceCall) →
     StopsAtFrame Notes id now old before [] fault.Write new after calls → SavesBeforeWriting before.store.version after.store.version (Err fault.Write) calls
 stops_for_append id now old new before after calls t =
     let v : ℕ = after.store.version in
@@ -156,7 +156,7 @@ stops_for_append id now old new before after calls t =
     given w v (Err fault.Write) calls (left_of v w w v calls m (ap (λ (c : Core). c.store.version) (sym t.serves.1.core_is)))
 
 -- nothing may be written any more
-stops_all : (id now : ℕ) (old new : ConnectionSeen) (before after : Core) (calls : List Call) →
+stops_all : (id now : ℕ) (old new : ConnectionSeen) (before after : Core) (calls : List DeviceCall) →
     StopsAtFrame Notes id now old before [] fault.Save new after calls → SavesBeforeWriting before.store.version after.store.version (Err fault.Save) calls
 stops_all id now old new before after calls t =
     let v : ℕ = after.store.version in
@@ -173,7 +173,7 @@ stops_all id now old new before after calls t =
     ]
 
 -- a read after which no frame is served
-only_read : (before after : Core) (answer : Result Served Fault) (calls : List Call) (call : Call) →
+only_read : (before after : Core) (answer : Result Served Fault) (calls : List DeviceCall) (call : DeviceCall) →
     Adds after.store.version before.store.version call before.store.version → Notes [] call calls → after ≡ before
     → SavesBeforeWriting before.store.version after.store.version answer calls
 only_read before after answer calls call a n e =

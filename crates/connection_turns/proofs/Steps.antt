@@ -10,27 +10,27 @@ use Rattle.server_core.specs.Cores.{Core, session_of, is_open, FeedsCoreFirst}
 use Rattle.server_core.specs.declared.server.FeedError.{FeedError}
 use Rattle.server_core.specs.declared.server.FeedError.TheVariants.{NoSession, Memory}
 use Rattle.server_core.specs.Serving.{Setting, is_closed}
-use Rattle.server_core.specs.Sessions.{Session, FeedsFirst, FedFirst}
-use Rattle.connection_turns.specs.Links.{ConnectionSeen, is_progress, after_frame}
+use Rattle.server_core.specs.Sessions.{Session, FeedsFirst, FeedsStoreFirst}
+use Rattle.connection_turns.specs.Links.{ConnectionSeen, is_progress, after_served_frame}
 use Rattle.connection_turns.specs.Turns.{ServesNext, StopsNext}
-use Rattle.connection_turns.specs.declared.connection_state.Progress.{Progress}
+use Rattle.connection_turns.specs.declared.connection_state.LastProgress.{LastProgress}
 
 -- what was fed and how the code saw it
-pub record Saw (old : ConnectionSeen) (after : Core) (id now : ℕ) (owed : List ℕ) (live : Bool) (last : Progress) (replied : ℕ) : Type 0 where
+pub record Saw (old : ConnectionSeen) (after : Core) (id now : ℕ) (owed : List ℕ) (live : Bool) (last : LastProgress) (replied : ℕ) : Type 0 where
   pub live_is : live ≡ is_open (session_of after.sessions id)
   pub replied_is : replied ≡ length owed - length old.owed
   pub last_is : last ≡ cond (is_progress old.awaited replied live) (record { moment = now; awaited = length owed })
       (record { moment = old.progress; awaited = old.awaited })
 
 -- the two parts of the last progress
-parts : (b : Bool) (last : Progress) (now owed moment awaited : ℕ) → last ≡ cond b (record { moment = now; awaited = owed })
+parts : (b : Bool) (last : LastProgress) (now owed moment awaited : ℕ) → last ≡ cond b (record { moment = now; awaited = owed })
     (record { moment = moment; awaited = awaited }) → (last.moment ≡ cond b now moment) × (last.awaited ≡ cond b owed awaited)
-parts true last now owed moment awaited e = (ap (λ (p : Progress). p.moment) e, ap (λ (p : Progress). p.awaited) e)
-parts false last now owed moment awaited e = (ap (λ (p : Progress). p.moment) e, ap (λ (p : Progress). p.awaited) e)
+parts true last now owed moment awaited e = (ap (λ (p : LastProgress). p.moment) e, ap (λ (p : LastProgress). p.awaited) e)
+parts false last now owed moment awaited e = (ap (λ (p : LastProgress). p.moment) e, ap (λ (p : LastProgress). p.awaited) e)
 
 pub serves_next : (x : Setting) (h : History) (s : Session) (id now : ℕ) (old : ConnectionSeen) (after : Core) (count : ℕ) (owed : List ℕ) (live : Bool)
-    (last : Progress) (replied : ℕ) → count ≤ length old.unserved
-    → (t : Session) × (session_of after.sessions id ≡ Some t) × FedFirst x h s old.unserved (Ok count) after.store t old.owed owed
+    (last : LastProgress) (replied : ℕ) → count ≤ length old.unserved
+    → (t : Session) × (session_of after.sessions id ≡ Some t) × FeedsStoreFirst x h s old.unserved (Ok count) after.store t old.owed owed
     → Saw old after id now owed live last replied
     → ServesNext x h s id now old
     (record { unserved = drop count old.unserved; owed = owed; live = live; ended = old.ended; progress = last.moment; awaited = last.awaited }) after
@@ -46,14 +46,14 @@ serves_next x h s id now old after count owed live last replied le fed saw =
     let flag : is_progress old.awaited replied live ≡ b =
     ap (λ (n : ℕ). is_progress old.awaited n live) size ∙ ap (is_progress old.awaited (length reply)) live_is in
     let both = parts b last now (length (old.owed ++ reply)) old.progress old.awaited
-    (saw.last_is ∙ ap (λ (c : Bool). let p : Progress = cond c (record { moment = now; awaited = length owed })
+    (saw.last_is ∙ ap (λ (c : Bool). let p : LastProgress = cond c (record { moment = now; awaited = length owed })
     (record { moment = old.progress; awaited = old.awaited }) in p) flag
-    ∙ ap (λ (ys : List ℕ). let p : Progress = cond b (record { moment = now; awaited = length ys })
+    ∙ ap (λ (ys : List ℕ). let p : LastProgress = cond b (record { moment = now; awaited = length ys })
     (record { moment = old.progress; awaited = old.awaited }) in p) owed_is) in
     let moment_is = both.0 in
     let awaited_is = both.1 in
     let new_is : record { unserved = drop count old.unserved; owed = owed; live = live; ended = old.ended; progress = last.moment; awaited = last.awaited }
-    ≡ after_frame count reply open_ now old = cc in
+    ≡ after_served_frame count reply open_ now old = cc in
     record {
       count = count;
       history = f.history;

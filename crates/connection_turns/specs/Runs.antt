@@ -7,7 +7,7 @@ use Rattle.frame_codec.specs.Frames.{IsFrame, encoding}
 use Rattle.version_store.specs.Histories.{History, StandsFor, undrafted, without_draft}
 use Rattle.server_core.specs.Cores.{Core, session_of}
 use Rattle.server_core.specs.Serving.{Setting, setting_of}
-use Rattle.server_core.specs.Sessions.{Session, new_session, FeedsSession, Fed}
+use Rattle.server_core.specs.Sessions.{Session, new_session, FeedsSession, FeedsStore}
 
 -- one thing that a connection does to the server
 pub data Deed : Type 0 where
@@ -28,18 +28,18 @@ abbrev pub OthersStay : ℕ → Core → Core → Type 0
 OthersStay id before after = (other : ℕ) → other ≢ id → session_of after.sessions other ≡ session_of before.sessions other
 
 -- a piece was fed to a connection's session, as a clause of the server's call says it
-abbrev pub FeedsLink : ℕ → Core → List ℕ → Result (Unit {0}) AllocError → List ℕ → Core → Type 0
-FeedsLink id before piece result reply after = (h : History) → StandsFor before.store h → (s : Session) → session_of before.sessions id ≡ Some s →
-    (t : Session) × (session_of after.sessions id ≡ Some t) × Fed (setting_of before.store) h s piece result after.store t [] reply
+abbrev pub FeedsConnection : ℕ → Core → List ℕ → Result (Unit {0}) AllocError → List ℕ → Core → Type 0
+FeedsConnection id before piece result reply after = (h : History) → StandsFor before.store h → (s : Session) → session_of before.sessions id ≡ Some s →
+    (t : Session) × (session_of after.sessions id ≡ Some t) × FeedsStore (setting_of before.store) h s piece result after.store t [] reply
 
 -- what a deed does to the server
 abbrev pub DoesToCore : Core → Deed → Core → Type 0
 DoesToCore before (Opens id) after =
     (session_of before.sessions id ≡ None) × (session_of after.sessions id ≡ Some new_session) × (after.store ≡ before.store) × OthersStay id before after
 DoesToCore before (Serves id piece reply) after =
-    (session_of before.sessions id ≢ None) × FeedsLink id before piece (Ok tt) reply after × OthersStay id before after
+    (session_of before.sessions id ≢ None) × FeedsConnection id before piece (Ok tt) reply after × OthersStay id before after
 DoesToCore before (Stops id piece) after =
-    (session_of before.sessions id ≢ None) × ((e : AllocError) × FeedsLink id before piece (Err e) [] after) × OthersStay id before after
+    (session_of before.sessions id ≢ None) × ((e : AllocError) × FeedsConnection id before piece (Err e) [] after) × OthersStay id before after
 DoesToCore before (Closes id) after = (session_of after.sessions id ≡ None) × (after.store ≡ before.store) × OthersStay id before after
 DoesToCore before Undrafts after = (after.sessions ≡ before.sessions) × (after.store ≡ without_draft before.store)
 

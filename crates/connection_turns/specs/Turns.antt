@@ -8,9 +8,9 @@ use Rattle.version_store.specs.Histories.{History, StandsFor}
 use Rattle.server_core.specs.Cores.{Core, session_of, MayWait, PublishesNext}
 use Rattle.server_core.specs.Serving.{Setting, setting_of, is_closed}
 use Rattle.server_core.specs.Sessions.{Session, FeedsFirst}
-use Rattle.connection_turns.specs.Calls.{Call, Read, ReadLater, ReadFails, Write, WriteLater, WriteFails, Append, AppendUndone, AppendLost, TakeBack, TakeBackFails}
+use Rattle.connection_turns.specs.Calls.{DeviceCall, Read, ReadLater, ReadFails, Write, WriteLater, WriteFails, Append, AppendUndone, AppendLost, TakeBack, TakeBackFails}
 use Rattle.connection_turns.specs.Sizes.{most_owed}
-use Rattle.connection_turns.specs.Links.{ConnectionSeen, MayRead, MayServe, MovesTo, Answers, after_receipt, after_end, after_write, after_frame}
+use Rattle.connection_turns.specs.Links.{ConnectionSeen, MayRead, MayServe, MovesTo, Answers, after_receipt, after_end, after_write, after_served_frame}
 use Rattle.connection_turns.specs.Runs.{DoesToCore, Serves, OthersStay}
 use Rattle.connection_turns.specs.declared.turns.Served.{Served}
 use Rattle.connection_turns.specs.declared.turns.Served.TheVariants.{Done, PutOff}
@@ -30,7 +30,7 @@ pub record ServesNext (x : Setting) (h : History) (s : Session) (id now : ℕ) (
   pub setting_is : setting_of after.store ≡ x
   pub store_is : StandsFor after.store history
   pub session_is : session_of after.sessions id ≡ Some session
-  pub new_is : new ≡ after_frame count (flat_map encoding replies) (not (is_closed session.standing)) now old
+  pub new_is : new ≡ after_served_frame count (flat_map encoding replies) (not (is_closed session.standing)) now old
 
 -- memory for it was refused: nothing was served, and its session is closed
 pub record StopsNext (x : Setting) (h : History) (s : Session) (id : ℕ) (old new : ConnectionSeen) (after : Core) : Type 0 where
@@ -48,13 +48,13 @@ abbrev pub AtEach : Core → ℕ → (Setting → History → Session → Type 0
 AtEach before id P = (h : History) → StandsFor before.store h → (s : Session) → session_of before.sessions id ≡ Some s → P (setting_of before.store) h s
 
 -- what came of a read
-abbrev pub ReadsSome : {C : Type 0} → (C → Call → C → Type 0) → ConnectionSeen → C → ConnectionSeen → C → Type 0
+abbrev pub ReadsSome : {C : Type 0} → (C → DeviceCall → C → Type 0) → ConnectionSeen → C → ConnectionSeen → C → Type 0
 ReadsSome does old a new b =
     (does a ReadLater b × (new ≡ old)) ⊎ ((does a (Read 65536 []) b × (new ≡ after_end old))
     ⊎ ((bytes : List ℕ) × (0 < length bytes) × does a (Read 65536 bytes) b × (new ≡ after_receipt bytes old)))
 
 -- one read at most, if the connection may read
-abbrev pub ReadsOnce : {C : Type 0} → (C → Call → C → Type 0) → ConnectionSeen → C → Result (Unit {0}) Fault → ConnectionSeen → C → Type 0
+abbrev pub ReadsOnce : {C : Type 0} → (C → DeviceCall → C → Type 0) → ConnectionSeen → C → Result (Unit {0}) Fault → ConnectionSeen → C → Type 0
 ReadsOnce does old a (Ok done) new b = ((MayRead old → ⊥) × (new ≡ old) × (b ≡ a)) ⊎ (MayRead old × ReadsSome does old a new b)
 ReadsOnce does old a (Err fault.Read) new b = MayRead old × does a ReadFails b × (new ≡ old)
 ReadsOnce does old a (Err fault.Memory) new b = MayRead old × ((bytes : List ℕ) × does a (Read 65536 bytes) b) × (new ≡ old)
@@ -75,20 +75,20 @@ pub record ServesPlain {C : Type 0} (id now : ℕ) (old : ConnectionSeen) (befor
   pub no_call : b ≡ a
 
 -- A publication that was appended is made or, if memory is refused to it, taken back.
-abbrev pub MakesOrTakesBack : {C : Type 0} → (C → Call → C → Type 0) → ℕ → C → Result (Unit {0}) Fault → ℕ → C → Type 0
+abbrev pub MakesOrTakesBack : {C : Type 0} → (C → DeviceCall → C → Type 0) → ℕ → C → Result (Unit {0}) Fault → ℕ → C → Type 0
 MakesOrTakesBack does before a (Ok done) after b =
     ((after ≡ before + 1) × (b ≡ a)) ⊎ ((after ≡ before) × does a (TakeBack (before + 1)) b)
 MakesOrTakesBack does before a (Err e) after b = (after ≡ before) × does a (TakeBack (before + 1)) b
 
 -- the frame of a publication that was appended is served, or memory for it is refused
-pub record ServesAppended {C : Type 0} (does : C → Call → C → Type 0) (id now : ℕ) (old : ConnectionSeen) (before : Core) (a : C)
+pub record ServesAppended {C : Type 0} (does : C → DeviceCall → C → Type 0) (id now : ℕ) (old : ConnectionSeen) (before : Core) (a : C)
     (answer : Result (Unit {0}) Fault) (new : ConnectionSeen) (after : Core) (b : C) : Type 0 where
   pub gives : FrameGives id now old before answer new after
   pub ends : MakesOrTakesBack does before.store.version a answer after.store.version b
 
 -- the publication of a frame that was served, or to which memory was refused, was not made, and
 -- could not be taken back
-pub record FailsToTakeBack {C : Type 0} (does : C → Call → C → Type 0) (id now : ℕ) (old : ConnectionSeen) (before : Core) (a : C)
+pub record FailsToTakeBack {C : Type 0} (does : C → DeviceCall → C → Type 0) (id now : ℕ) (old : ConnectionSeen) (before : Core) (a : C)
     (new : ConnectionSeen) (after : Core) (b : C) : Type 0 where
   pub answer : Result (Unit {0}) Fault
   pub gives : FrameGives id now old before answer new after
@@ -96,12 +96,12 @@ pub record FailsToTakeBack {C : Type 0} (does : C → Call → C → Type 0) (id
   pub fails : does a (TakeBackFails (before.store.version + 1)) b
 
 -- what comes of a publication that was appended
-abbrev pub EndsAppended : {C : Type 0} → (C → Call → C → Type 0) → ℕ → ℕ → ConnectionSeen → Core → C → Result (Unit {0}) Fault → ConnectionSeen → Core → C → Type 0
+abbrev pub EndsAppended : {C : Type 0} → (C → DeviceCall → C → Type 0) → ℕ → ℕ → ConnectionSeen → Core → C → Result (Unit {0}) Fault → ConnectionSeen → Core → C → Type 0
 EndsAppended does id now old before a (Err fault.Save) new after b = FailsToTakeBack does id now old before a new after b
 EndsAppended does id now old before a answer new after b = ServesAppended does id now old before a answer new after b
 
 -- a publication is appended, and only then its frame is served
-pub record Publishes {C : Type 0} (does : C → Call → C → Type 0) (id now : ℕ) (old : ConnectionSeen) (before : Core) (a : C)
+pub record Publishes {C : Type 0} (does : C → DeviceCall → C → Type 0) (id now : ℕ) (old : ConnectionSeen) (before : Core) (a : C)
     (answer : Result (Unit {0}) Fault) (new : ConnectionSeen) (after : Core) (b : C) : Type 0 where
   pub publishes : PublishesNext before id old.unserved
   pub appended_by : C
@@ -109,18 +109,18 @@ pub record Publishes {C : Type 0} (does : C → Call → C → Type 0) (id now :
   pub ends : EndsAppended does id now old before appended_by answer new after b
 
 -- a publication could not be appended: nothing is served
-pub record FailsToAppend {C : Type 0} (does : C → Call → C → Type 0) (call : ℕ → Call) (id : ℕ) (old : ConnectionSeen) (before : Core) (a : C)
+pub record FailsToAppend {C : Type 0} (does : C → DeviceCall → C → Type 0) (call : ℕ → DeviceCall) (id : ℕ) (old : ConnectionSeen) (before : Core) (a : C)
     (new : ConnectionSeen) (after : Core) (b : C) : Type 0 where
   pub publishes : PublishesNext before id old.unserved
   pub fails : does a (call (before.store.version + 1)) b
-  pub link_is : new ≡ old
+  pub seen_is : new ≡ old
   pub core_is : after ≡ before
 
 -- One frame at most, if one may be served. If it publishes, the publication is appended before:
 -- if nothing of that is left, nothing is served, and if a part of it may be left, or it could not
 -- be taken back, nothing may be written any more. Only a query or a publication is put off; that
 -- changes nothing, and no call is made for it.
-abbrev pub ServesOnce : {C : Type 0} → (C → Call → C → Type 0) → ℕ → ℕ → ConnectionSeen → Core → C → Result Served Fault → ConnectionSeen → Core → C → Type 0
+abbrev pub ServesOnce : {C : Type 0} → (C → DeviceCall → C → Type 0) → ℕ → ℕ → ConnectionSeen → Core → C → Result Served Fault → ConnectionSeen → Core → C → Type 0
 ServesOnce does id now old before a (Ok Done) new after b =
     ((MayServe old → ⊥) × (new ≡ old) × (after ≡ before) × (b ≡ a))
     ⊎ (MayServe old × (ServesPlain id now old before a (Ok tt) new after b ⊎ Publishes does id now old before a (Ok tt) new after b))
@@ -133,7 +133,7 @@ ServesOnce does id now old before a (Err fault.Save) new after b =
 ServesOnce does id now old before a (Err fault.Read) new after b = ⊥
 
 -- one write at most, if something is owed
-abbrev pub WritesOnce : {C : Type 0} → (C → Call → C → Type 0) → ℕ → ConnectionSeen → C → Result (Unit {0}) Fault → ConnectionSeen → C → Type 0
+abbrev pub WritesOnce : {C : Type 0} → (C → DeviceCall → C → Type 0) → ℕ → ConnectionSeen → C → Result (Unit {0}) Fault → ConnectionSeen → C → Type 0
 WritesOnce does now old a (Ok done) new b =
     ((old.owed ≡ []) × (new ≡ old) × (b ≡ a)) ⊎ ((does a WriteLater b × (new ≡ old))
     ⊎ ((n : ℕ) × (0 < n) × (n ≤ length old.owed) × does a (Write (take n old.owed)) b × (new ≡ after_write n now old)))
@@ -141,7 +141,7 @@ WritesOnce does now old a (Err fault.Write) new b = (0 < length old.owed) × doe
 WritesOnce does now old a (Err _) new b = ⊥
 
 -- a turn that came to its end, or was stopped by a write that failed
-pub record TakesTurn {C : Type 0} (does : C → Call → C → Type 0) (id now : ℕ) (old : ConnectionSeen) (before : Core) (a : C) (served : Served)
+pub record TakesTurn {C : Type 0} (does : C → DeviceCall → C → Type 0) (id now : ℕ) (old : ConnectionSeen) (before : Core) (a : C) (served : Served)
     (answer : Result (Unit {0}) Fault) (new : ConnectionSeen) (after : Core) (b : C) : Type 0 where
   pub filled : ConnectionSeen
   pub answered : ConnectionSeen
@@ -152,7 +152,7 @@ pub record TakesTurn {C : Type 0} (does : C → Call → C → Type 0) (id now :
   pub writes : WritesOnce does now answered served_by answer new b
 
 -- one that the frame at hand stopped
-pub record StopsAtFrame {C : Type 0} (does : C → Call → C → Type 0) (id now : ℕ) (old : ConnectionSeen) (before : Core) (a : C) (e : Fault)
+pub record StopsAtFrame {C : Type 0} (does : C → DeviceCall → C → Type 0) (id now : ℕ) (old : ConnectionSeen) (before : Core) (a : C) (e : Fault)
     (new : ConnectionSeen) (after : Core) (b : C) : Type 0 where
   pub filled : ConnectionSeen
   pub read_by : C
@@ -161,7 +161,7 @@ pub record StopsAtFrame {C : Type 0} (does : C → Call → C → Type 0) (id no
 
 -- A turn of a connection: one read at most, one frame at most, whose publication is appended before
 -- it is made, and one write at most.
-abbrev pub IsTurn : {C : Type 0} → (C → Call → C → Type 0) → ℕ → ℕ → ConnectionSeen → Core → C → Result Served Fault → ConnectionSeen → Core → C → Type 0
+abbrev pub IsTurn : {C : Type 0} → (C → DeviceCall → C → Type 0) → ℕ → ℕ → ConnectionSeen → Core → C → Result Served Fault → ConnectionSeen → Core → C → Type 0
 IsTurn does id now old before a (Ok served) new after b = TakesTurn does id now old before a served (Ok tt) new after b
 IsTurn does id now old before a (Err fault.Read) new after b = ReadsOnce does old a (Err fault.Read) new b × (after ≡ before)
 IsTurn does id now old before a (Err fault.Write) new after b =

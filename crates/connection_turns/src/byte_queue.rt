@@ -5,8 +5,8 @@ ghost use Rattle.std.specs.Prelude.{◌≡◌, ◌≤◌, ◌↔◌, [], drop, l
 use std::alloc::{AllocError, Global};
 use std::marker::Model;
 
-/// With fewer bytes used up than these nothing is moved. With more, no more than a third of what is
-/// left.
+/// Bytes that are used up stay in their place while they are fewer than these, or fewer than a
+/// third of what is left. So a move copies at most three times what was used up.
 const SPARE: usize = 65_536;
 
 /// Bytes that are used up from their start on, and added to at their end. When all are used up

@@ -1,4 +1,4 @@
-//! A connection.
+//! What a server keeps for one connection.
 
 ghost use Rattle.std.specs.Prelude.{◌≡◌, ◌≢◌, ◌≤◌, ◌<◌, ◌+◌, ◌-◌, ◌^◌, ◌↔◌, min, cond, List, ℕ};
 ghost use Rattle.std.specs.Prelude.{None, [], length, IsTrue, OnOk, OnErr, false};
@@ -30,12 +30,12 @@ pub struct ConnectionState {
     live: bool,
     // A read found the end of the input.
     ended: bool,
-    last: Progress,
+    last: LastProgress,
 }
 
 // The last progress of a connection.
 #[derive(Clone, Copy)]
-struct Progress {
+struct LastProgress {
     // Its moment.
     moment: u64,
     // How many bytes of what was owed then have to be taken until the next.
@@ -71,7 +71,7 @@ impl ConnectionState {
             owed: ByteQueue::new(alloc),
             live: true,
             ended: false,
-            last: Progress {
+            last: LastProgress {
                 moment: now,
                 awaited: 0,
             },
@@ -222,7 +222,7 @@ impl ConnectionState {
         if n < self.last.awaited {
             self.last.awaited -= n;
         } else {
-            self.last = Progress {
+            self.last = LastProgress {
                 moment: now,
                 awaited: self.owed.len(),
             };
@@ -232,12 +232,18 @@ impl ConnectionState {
 
 // The last progress after a step that replied so many bytes, with so many owed then: this one, if
 // the session was closed, or if there are replies and nothing was awaited.
-fn progress_after(before: Progress, replied: usize, live: bool, now: u64, owed: usize) -> Progress
+fn progress_after(
+    before: LastProgress,
+    replied: usize,
+    live: bool,
+    now: u64,
+    owed: usize,
+) -> LastProgress
     ensures { result ≡ cond (is_progress before.awaited replied live)
         (record { moment = now; awaited = owed }) before }
 {
     if !live || before.awaited == 0 && replied > 0 {
-        Progress {
+        LastProgress {
             moment: now,
             awaited: owed,
         }

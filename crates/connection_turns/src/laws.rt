@@ -1,6 +1,6 @@
 //! Laws of connections. Each function does nothing: its clause is the law.
 
-ghost use Rattle.connection_turns.specs.Links.{LinksAwait, LinksKeep};
+ghost use Rattle.connection_turns.specs.Links.{ConnectionsAwait, ConnectionsKeep};
 ghost use Rattle.connection_turns.specs.Runs.{DeedsAreOneRun};
 ghost use Rattle.connection_turns.specs.Saving.{TurnsSaveBeforeWriting};
 ghost use Rattle.connection_turns.specs.Turns.{OwedIsBounded, ServedFramesAreDeeds};
@@ -8,15 +8,15 @@ ghost use Rattle.connection_turns.specs.Turns.{ServedFramesAreMoves};
 
 /// After any moves of a connection, in any order, what came is what was served and then what is not
 /// yet served, and what was replied is what was written and then what is owed.
-pub fn links_keep()
-    ensures { LinksKeep }
+pub fn connections_keep()
+    ensures { ConnectionsKeep }
 {}
 
 /// After any moves of a connection, something is awaited exactly while something is owed: so
 /// whoever takes nothing, or some bytes now and then, has the idle time for what was owed at the
 /// last progress.
-pub fn links_await()
-    ensures { LinksAwait }
+pub fn connections_await()
+    ensures { ConnectionsAwait }
 {}
 
 /// What all connections do to a server, in the order in which they do it, is one run over one

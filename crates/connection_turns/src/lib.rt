@@ -9,7 +9,7 @@
 //! not made then. No byte is written while the version that is served is not the one that is there
 //! after a crash.
 //!
-//! Its tests are in tests/long/tests_session (`engines/saving`, `engines/turns`) and tests/service.
+//! Its tests are in tests/long/tests_session (`engines/saving`) and tests/service.
 #![tactic(auto)]
 
 mod byte_queue;
@@ -19,5 +19,5 @@ mod outside;
 mod turns;
 
 pub use connection_state::{ConnectionState, PIECE_LEN};
-pub use outside::{AppendFailed, Outside, SaveFailed, Stop};
+pub use outside::{AppendFailed, Outside, SaveFailed, SocketStop};
 pub use turns::{Fault, Served, turn};

@@ -2,8 +2,9 @@
 
 ghost use Rattle.std.specs.Prelude.{◌≡◌, ◌≤◌, ◌<◌, ◌+◌, ◌^◌, ℕ, length, true, IfOk, IsErrOf, OnOk};
 ghost use Rattle.std.specs.Prelude.{⊤};
-ghost use Rattle.connection_turns.specs.Calls.{Call, append_call, read_call, take_back_call};
-ghost use Rattle.connection_turns.specs.Calls.{write_call};
+ghost use Rattle.connection_turns.specs.Calls.{DeviceCall, append_call, device_read};
+ghost use Rattle.connection_turns.specs.Calls.{take_back_call};
+ghost use Rattle.connection_turns.specs.Calls.{device_write};
 
 use matrix_u32::Kernel;
 use thiserror::Error;
@@ -11,7 +12,7 @@ use version_store::Store;
 
 /// Why a call on a socket gave nothing.
 #[derive(Clone, Copy, Debug, PartialEq, Eq, Error)]
-pub enum Stop {
+pub enum SocketStop {
     /// The call would have waited: nothing changed.
     #[error("nothing can be done yet")]
     Later,
@@ -42,7 +43,7 @@ pub trait Outside<K: Kernel> {
     ghost saved: { Self → ℕ };
 
     /// Relates what is outside before a call, what came of the call, and what is outside after it.
-    ghost does: { Self → Call → Self → Type 0 } = { λ _ _ _. ⊤ };
+    ghost does: { Self → DeviceCall → Self → Type 0 } = { λ _ _ _. ⊤ };
 
     /// Appends a publication before it is made: the store's draft, as the next version, is there
     /// after a crash.
@@ -72,18 +73,18 @@ pub trait Outside<K: Kernel> {
 
     /// Reads into the start of the buffer, and returns how many bytes came. 0 is the end, if
     /// there is room.
-    fn read(&mut self, buffer: &mut [u8]) -> Result<usize, Stop>
+    fn read(&mut self, buffer: &mut [u8]) -> Result<usize, SocketStop>
         ensures within { IfOk result (λ n. n ≤ length buffer.new) }
-        ensures did { does self.old (read_call result buffer.new) self.new }
+        ensures did { does self.old (device_read result buffer.new) self.new }
         ensures kept { saved self.new ≡ saved self.old };
 
     /// Writes some bytes from their start on, and returns how many were taken: one at least, if
     /// there are any. Bytes may be written only while the store's current version is saved, since
     /// the bytes may say that it was published.
-    fn write(&mut self, store: &Store<K>, bytes: &[u8]) -> Result<usize, Stop>
+    fn write(&mut self, store: &Store<K>, bytes: &[u8]) -> Result<usize, SocketStop>
         requires saved { saved self.old ≡ store.now.version }
         ensures within { IfOk result (λ n. n ≤ length bytes.now) }
         ensures some { IfOk result (λ n. 0 < length bytes.now → 0 < n) }
-        ensures did { does self.old (write_call result bytes.now) self.new }
+        ensures did { does self.old (device_write result bytes.now) self.new }
         ensures kept { saved self.new ≡ saved self.old };
 }

@@ -9,7 +9,7 @@ ghost use Rattle.connection_turns.specs.Turns.{EndsAppended, FrameGives, IsTurn,
 ghost use Rattle.connection_turns.specs.Turns.{WritesOnce};
 
 use crate::connection_state::ConnectionState;
-use crate::outside::{AppendFailed, Outside, Stop};
+use crate::outside::{AppendFailed, Outside, SocketStop};
 use matrix_u32::Kernel;
 use server_core::ServerCore;
 use thiserror::Error;
@@ -75,8 +75,8 @@ fn read_once<K: Kernel, O: Outside<K>>(
             Ok(()) => Ok(()),
             Err(_) => Err(Fault::Memory),
         },
-        Err(Stop::Later) => Ok(()),
-        Err(Stop::Failed) => Err(Fault::Read),
+        Err(SocketStop::Later) => Ok(()),
+        Err(SocketStop::Failed) => Err(Fault::Read),
     }
 }
 
@@ -184,8 +184,8 @@ fn write_once<K: Kernel, O: Outside<K>>(
             state.wrote(n, now);
             Ok(())
         }
-        Err(Stop::Later) => Ok(()),
-        Err(Stop::Failed) => Err(Fault::Write),
+        Err(SocketStop::Later) => Ok(()),
+        Err(SocketStop::Failed) => Err(Fault::Write),
     }
 }
 

@@ -16,8 +16,8 @@ use Rattle.digit_pack.specs.Digits.{decomposed}
 use Rattle.digit_pack.specs.Layout.{Shape, digit_cols, digit_rows, digits_per_record}
 use Rattle.double_scheme.specs.Double.{one_column, first_answer_of, part_answer_of, part_answers_of, part_of_query, words_of_part, double_answer}
 use Rattle.double_scheme.specs.Steps.{HasFirst, HasColumn, HasParts, HasPartRows, HasStepsBuffers, IsMadeSoFar, IsMadeUntil, IsWholeAt, rows_made}
-use Rattle.double_scheme.specs.declared.steps.Stage.{Stage}
-use Rattle.double_scheme.specs.declared.steps.Stage.TheVariants.{Column, Parts}
+use Rattle.double_scheme.specs.declared.steps.AnswerStage.{AnswerStage}
+use Rattle.double_scheme.specs.declared.steps.AnswerStage.TheVariants.{Column, Parts}
 use Rattle.double_scheme.proofs.Lengths.{length-answer_of}
 use Rattle.double_scheme.specs.declared.steps.AnswerSteps.{AnswerSteps}
 use Rattle.double_scheme.proofs.Answering.{column_is_row}
@@ -159,7 +159,7 @@ parts_joined l d h a2 first query old new p next len rows one is long joined bef
     (subst (λ n. HasFirst n ((product first a2).words ++ part_answers_of l h first query) old) (sym (place p))
     (subst (λ (m : WordMatrix). HasFirst (a2.cols * split_count l.width + p * words_of_part l.width a2.cols) ((product m a2).words ++ part_answers_of l h m query) old) (sym is) before))))
 
-whole_at : (l : Shape) (d h a2 : WordMatrix) (query : List ℕ) (s : AnswerSteps) (stage : Stage) → HasStepsBuffers l a2.cols s → IsMadeUntil l d h a2 query s stage →
+whole_at : (l : Shape) (d h a2 : WordMatrix) (query : List ℕ) (s : AnswerSteps) (stage : AnswerStage) → HasStepsBuffers l a2.cols s → IsMadeUntil l d h a2 query s stage →
     h.rows ≡ a2.cols * split_count l.width → IsWholeAt l stage → s.words.items ≡ double_answer l d h a2 query
 whole_at l d h a2 query s (Column n) room made rows whole = absurd whole
 whole_at l d h a2 query s (Parts p r) room made rows whole =

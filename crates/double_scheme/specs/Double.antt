@@ -54,7 +54,7 @@ abbrev pub part_query_of : Shape → WordMatrix → List ℕ → ℕ → ℕ →
 part_query_of l a2 seed number i d =
     cipher l.width a2 (part_secret seed number a2.cols d) (part_noise seed number a2.rows d) (first_row l i + d)
 
--- all parts of it
+-- the parts of the query for record i, one after another
 abbrev pub part_queries_of : Shape → WordMatrix → List ℕ → ℕ → ℕ → List ℕ
 part_queries_of l a2 seed number i = flat_map (part_query_of l a2 seed number i) (range_with_len 0 (digits_per_record l))
 

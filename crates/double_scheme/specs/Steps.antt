@@ -4,8 +4,8 @@ use Rattle.matrix_u32.specs.Matrix.{WordMatrix, times_vector}
 use Rattle.lane_kernels.specs.Digit.{split_count}
 use Rattle.digit_pack.specs.Layout.{Shape, IsLayout, digit_rows, digit_cols, digits_per_record}
 use Rattle.double_scheme.specs.declared.steps.AnswerSteps.{AnswerSteps}
-use Rattle.double_scheme.specs.declared.steps.Stage.{Stage}
-use Rattle.double_scheme.specs.declared.steps.Stage.TheVariants.{Column, Parts}
+use Rattle.double_scheme.specs.declared.steps.AnswerStage.{AnswerStage}
+use Rattle.double_scheme.specs.declared.steps.AnswerStage.TheVariants.{Column, Parts}
 use Rattle.double_scheme.specs.Double.{first_answer_of, part_of_query, double_answer, double_answer_count, words_of_part}
 
 -- a list begins as another does: so many of them are the same
@@ -48,7 +48,7 @@ pub record HasParts (l : Shape) (digits server_hint a2 : WordMatrix) (query : Li
   pub so_far : HasFirst (a2.cols * split_count l.width + d * words_of_part l.width a2.cols) (double_answer l digits server_hint a2 query) s.words.items
 
 -- What is there at a stage: some rows of the first layer's answer, or the answer up to a part.
-abbrev pub IsMadeUntil : Shape → WordMatrix → WordMatrix → WordMatrix → List ℕ → AnswerSteps → Stage → Type 0
+abbrev pub IsMadeUntil : Shape → WordMatrix → WordMatrix → WordMatrix → List ℕ → AnswerSteps → AnswerStage → Type 0
 IsMadeUntil l digits server_hint a2 query s (Column n) = HasColumn l digits query s n
 IsMadeUntil l digits server_hint a2 query s (Parts d r) = HasParts l digits server_hint a2 query s d r
 
@@ -58,13 +58,13 @@ pub record IsMadeSoFar (l : Shape) (digits server_hint a2 : WordMatrix) (query :
   pub made : IsMadeUntil l digits server_hint a2 query s s.stage
 
 -- no step is left
-abbrev pub IsWholeAt : Shape → Stage → Type 0
+abbrev pub IsWholeAt : Shape → AnswerStage → Type 0
 IsWholeAt l (Column n) = ⊥
 IsWholeAt l (Parts d r) = digits_per_record l ≤ d
 
 -- How far an answer is, as one number that each step makes greater, for a server's hint of h rows:
 -- the rows of the first layer's answer, then for each part the rows of the server's hint, and one
 -- for the end of each of these.
-abbrev pub rows_made : Shape → ℕ → Stage → ℕ
+abbrev pub rows_made : Shape → ℕ → AnswerStage → ℕ
 rows_made l h (Column n) = n
 rows_made l h (Parts d r) = digit_rows l + 1 + d * (h + 1) + r

@@ -32,7 +32,7 @@ struct Reading<'a> {
 
 // What the first layer's answer is read with: its hint and its secret.
 #[derive(Clone, Copy)]
-struct FirstLayer<'a> {
+struct FirstReading<'a> {
     hint: &'a Matrix,
     secret: &'a [u32],
 }
@@ -142,7 +142,7 @@ fn read_part<K: Kernel>(
     kernel: K,
     w: u32,
     row: &[u32],
-    first: &FirstLayer<'_>,
+    first: &FirstReading<'_>,
     part_secret: &[u32],
     part: &[u32],
     digits: &mut [u32],
@@ -212,7 +212,7 @@ fn read_parts<K: Kernel>(
         secrets: &secrets,
     };
     read_rows(kernel, &reading, client_hint, &mut digits, &mut rows);
-    let first = FirstLayer {
+    let first = FirstReading {
         hint: &hint,
         secret: &s,
     };
@@ -225,7 +225,7 @@ fn read_digits_of_parts<K: Kernel>(
     kernel: K,
     reading: &Reading<'_>,
     rows: &Matrix,
-    first: &FirstLayer<'_>,
+    first: &FirstReading<'_>,
     digits: &mut [u32],
     out: &mut [u32],
 )

@@ -24,7 +24,7 @@ pub const STEP_DIGITS: usize = 33_554_432;
 
 /// How far an answer is.
 #[derive(Clone, Copy)]
-pub(crate) enum Stage {
+pub(crate) enum AnswerStage {
     /// So many rows of the first layer's answer are there.
     Column(usize),
     /// The answer is there up to a part, and of that part and the next one so many rows of the
@@ -36,7 +36,7 @@ pub(crate) enum Stage {
 #[derive(Drop)]
 pub struct AnswerSteps {
     layout: Layout,
-    stage: Stage,
+    stage: AnswerStage,
     column: Vec<u32>,
     first: Matrix,
     hint: Matrix,
@@ -372,14 +372,14 @@ impl AnswerSteps {
         requires { dimension ≤ 1024 }
         ensures so_far { IfOk result (λ s. (digits server_hint a2 : WordMatrix) (query : List ℕ) →
             a2.cols ≡ dimension → IsMadeSoFar layout.now digits server_hint a2 query s) }
-        ensures begun { IfOk result (λ s. s.stage ≡ Stage.Column 0) }
+        ensures begun { IfOk result (λ s. s.stage ≡ AnswerStage.Column 0) }
     {
         let rows = layout.rows();
         let digits = split_count(layout.width());
         let count = dimension * digits + digits;
         Ok(AnswerSteps {
             layout: *layout,
-            stage: Stage::Column(0),
+            stage: AnswerStage::Column(0),
             column: vec![in alloc; 0; rows]?,
             first: zeros(alloc, digits, rows)?,
             hint: zeros(alloc, digits, dimension)?,
@@ -432,8 +432,8 @@ impl AnswerSteps {
         ensures { IsTrue result ↔ IsWholeAt self.now.layout self.now.stage }
     {
         match self.stage {
-            Stage::Column(_) => false,
-            Stage::Parts(part, _) => part >= self.layout.digits_per_record(),
+            AnswerStage::Column(_) => false,
+            AnswerStage::Parts(part, _) => part >= self.layout.digits_per_record(),
         }
     }
 
@@ -465,8 +465,15 @@ impl AnswerSteps {
         ensures layout { self.new.layout ≡ self.old.layout }
     {
         match self.stage {
-            Stage::Column(made) => self.make_column(kernel, digits, a2, query, most_digits, made),
-            Stage::Parts(part, made) => {
+            AnswerStage::Column(made) => self.make_column(
+                kernel,
+                digits,
+                a2,
+                query,
+                most_digits,
+                made,
+            ),
+            AnswerStage::Parts(part, made) => {
                 self.make_parts(kernel, server_hint, query, most_digits, part, made)
             }
         }
@@ -504,7 +511,7 @@ impl AnswerSteps {
             IsMadeSoFar self.old.layout (S.digits digits.now) server_hint a2.now query.now
             self.new }
         ensures forward { (hint_rows : ℕ) →
-            rows_made self.old.layout hint_rows (Stage.Column made) <
+            rows_made self.old.layout hint_rows (AnswerStage.Column made) <
             rows_made self.old.layout hint_rows self.new.stage }
         ensures layout { self.new.layout ≡ self.old.layout }
     {
@@ -512,7 +519,7 @@ impl AnswerSteps {
         let now_made = put_column_rows(kernel, digits, query, most_digits, made, column);
         let read = digits_read(made, now_made, digits.cols());
         if now_made < self.layout.rows() {
-            self.stage = Stage::Column(now_made);
+            self.stage = AnswerStage::Column(now_made);
             return read;
         }
         self.make_first(kernel, a2);
@@ -524,7 +531,7 @@ impl AnswerSteps {
         requires second_rows { a2.now.rows ≡ digit_rows self.old.layout }
         requires room { HasStepsBuffers self.old.layout a2.now.cols self.old }
         ensures room { HasStepsBuffers self.old.layout a2.now.cols self.new }
-        ensures stage { self.new.stage ≡ Stage.Parts 0 0 }
+        ensures stage { self.new.stage ≡ AnswerStage.Parts 0 0 }
         ensures first { self.new.first ≡ decomposed self.old.layout.width
             (transpose (one_column self.old.column.items)) }
         ensures hint { HasFirst (length (product self.new.first a2.now).words)
@@ -533,7 +540,7 @@ impl AnswerSteps {
     {
         put_digits(&self.column, self.layout.width(), &mut self.first);
         put_first_hint(kernel, &self.first, a2, &mut self.hint, &mut self.words);
-        self.stage = Stage::Parts(0, 0);
+        self.stage = AnswerStage::Parts(0, 0);
     }
 
     // Makes some more rows of a part and of the one after it and, if all are there then, ends them.
@@ -551,7 +558,7 @@ impl AnswerSteps {
             self.old.hint.cols * split_count self.old.layout.width }
         requires server_cols { (S.digits server_hint.now).cols ≡ digit_rows self.old.layout }
         requires room { HasStepsBuffers self.old.layout self.old.hint.cols self.old }
-        requires stage { self.old.stage ≡ Stage.Parts part made }
+        requires stage { self.old.stage ≡ AnswerStage.Parts part made }
         requires rows { HasPartRows self.old.layout (S.digits server_hint.now) query.now self.old
             part made }
         ensures so_far { (digits a2 : WordMatrix) → a2.cols ≡ self.old.hint.cols →
@@ -559,7 +566,7 @@ impl AnswerSteps {
             made →
             IsMadeSoFar self.old.layout digits (S.digits server_hint.now) a2 query.now self.new }
         ensures forward { digits_per_record self.old.layout ≤ part ⊎
-            rows_made self.old.layout (S.digits server_hint.now).rows (Stage.Parts part made) <
+            rows_made self.old.layout (S.digits server_hint.now).rows (AnswerStage.Parts part made) <
             rows_made self.old.layout (S.digits server_hint.now).rows self.new.stage }
         ensures layout { self.new.layout ≡ self.old.layout }
     {
@@ -575,7 +582,7 @@ impl AnswerSteps {
         let now_made = put_part_rows(kernel, &of, server_hint, most_digits, made, x, y);
         let read = digits_read(made, now_made, server_hint.cols());
         if now_made < server_hint.rows() {
-            self.stage = Stage::Parts(part, now_made);
+            self.stage = AnswerStage::Parts(part, now_made);
             return read;
         }
         self.end_parts(kernel, server_hint, query, part, now_made);
@@ -609,7 +616,7 @@ impl AnswerSteps {
             self.old.words.items →
             IsMadeSoFar self.old.layout digits (S.digits server_hint.now) a2 query.now self.new }
         ensures forward { (d : ℕ) → d ≤ (S.digits server_hint.now).rows →
-            rows_made self.old.layout (S.digits server_hint.now).rows (Stage.Parts part d) <
+            rows_made self.old.layout (S.digits server_hint.now).rows (AnswerStage.Parts part d) <
             rows_made self.old.layout (S.digits server_hint.now).rows self.new.stage }
         ensures layout { self.new.layout ≡ self.old.layout }
     {
@@ -621,6 +628,6 @@ impl AnswerSteps {
             part,
         };
         let next = end_both(kernel, &of, server_hint, first, x, y, words);
-        self.stage = Stage::Parts(next, 0);
+        self.stage = AnswerStage::Parts(next, 0);
     }
 }

@@ -6,13 +6,13 @@ use Rattle.server_core.specs.declared.server.FeedError.{FeedError}
 use Rattle.server_core.specs.declared.server.FeedError.TheVariants as feed
 use Rattle.server_core.specs.Cores.{session_of, FeedsCoreFirst}
 use Rattle.server_core.specs.Serving.{Setting, setting_of}
-use Rattle.server_core.specs.Sessions.{Session, Fed, FedFirst}
+use Rattle.server_core.specs.Sessions.{Session, FeedsStore, FeedsStoreFirst}
 use Rattle.server_core.proofs.Firsts.{firsts_are_pieces}
 use Rattle.foreign_sessions.specs.declared.server.ServerSession.{ServerSession}
-use Rattle.foreign_sessions.specs.Servers.{ServesPiece}
+use Rattle.foreign_sessions.specs.Servers.{ServesWholePiece}
 
 fed_piece : (x : Setting) (h : History) (was : Session) (piece : List ℕ) (taken : ℕ) (store : StoreState) (is : Session) (before after : List ℕ) →
-    FedFirst x h was piece (Ok taken) store is before after → Fed x h was (take taken piece) (Ok tt) store is before after
+    FeedsStoreFirst x h was piece (Ok taken) store is before after → FeedsStore x h was (take taken piece) (Ok tt) store is before after
 fed_piece x h was piece taken store is before after f = record {
   history = f.history;
   replies = f.replies;
@@ -31,7 +31,7 @@ pub as_piece : (old : ServerSession) (id : ℕ) (piece : List ℕ) (taken : ℕ)
     × FeedsCoreFirst (setting_of old.core.store) h was piece (Ok taken) new.core.store is old.replies.items new.replies.items)
     → (IsErrOf (Ok taken) feed.NoSession ↔ (session_of old.core.sessions id ≡ None))
     → ((other : ℕ) → other ≢ id → session_of new.core.sessions other ≡ session_of old.core.sessions other)
-    → ServesPiece old id (take taken piece) (Ok tt) new
+    → ServesWholePiece old id (take taken piece) (Ok tt) new
 as_piece old id piece taken new silent fed no_session others = record {
   silent = silent;
   fed = λ h stands was e.

@@ -26,22 +26,22 @@ untaken s = length s.waiting.items + length s.events.items
 
 -- what a call did to a session, as its answer says: no bytes waited, and those of the accepted call
 -- wait now; or bytes waited, and nothing changed; or the client refused it, and what waits stayed
-abbrev pub Answers : ClientSession → ClientCall → Result (Unit {0}) SessionFault → ClientSession → Type 0
-Answers old want (Ok done) new =
+abbrev pub CallsClient : ClientSession → ClientCall → Result (Unit {0}) SessionFault → ClientSession → Type 0
+CallsClient old want (Ok done) new =
     (length old.waiting.items ≡ 0) × Accepts old.core.state want new.core.state new.waiting.items
     × (new.core.reader ≡ old.core.reader) × (new.events ≡ old.events)
-Answers old want (Err call.Untaken) new = (0 < length old.waiting.items) × (new ≡ old)
-Answers old want (Err (call.Call fault)) new =
+CallsClient old want (Err call.Untaken) new = (0 < length old.waiting.items) × (new ≡ old)
+CallsClient old want (Err (call.Call fault)) new =
     (length old.waiting.items ≡ 0) × Refuses old.core.state want fault new.core.state
     × (new.core.reader ≡ old.core.reader) × (new.waiting ≡ old.waiting) × (new.events ≡ old.events)
 
 -- what a piece did to a session, as its answer says: nothing waited, and what the client gave waits
 -- now, also if it stopped; or something waited, and nothing changed
-abbrev pub Feeds : ClientSession → List ℕ → Result (Unit {0}) FeedFault → ClientSession → Type 0
-Feeds old bytes (Ok done) new =
+abbrev pub FeedsClientSession : ClientSession → List ℕ → Result (Unit {0}) FeedFault → ClientSession → Type 0
+FeedsClientSession old bytes (Ok done) new =
     (untaken old ≡ 0) × FeedsClient old.core bytes new.waiting.items new.events.items None new.core
-Feeds old bytes (Err piece.Untaken) new = (0 < untaken old) × (new ≡ old)
-Feeds old bytes (Err (piece.Client fault)) new =
+FeedsClientSession old bytes (Err piece.Untaken) new = (0 < untaken old) × (new ≡ old)
+FeedsClientSession old bytes (Err (piece.Client fault)) new =
     (untaken old ≡ 0) × FeedsClient old.core bytes new.waiting.items new.events.items (Some fault) new.core
 
 -- the file of the hint held, with what the server reported last; no byte if there is none
@@ -55,16 +55,16 @@ abbrev pub hint_file_of : ClientState → List ℕ
 hint_file_of c = file_of c.known c.hint
 
 -- the bytes that say which store the server's is, as far as it reported one
-abbrev pub store_of : Option ServerInfo → Option (List ℕ)
-store_of None = None
-store_of (Some known) = Some (plan_bytes known.plan)
+abbrev pub plan_bytes_of : Option ServerInfo → Option (List ℕ)
+plan_bytes_of None = None
+plan_bytes_of (Some known) = Some (plan_bytes known.plan)
 
 -- what is saved of a client in a hint's file, with the number that this one has
 abbrev pub saved_in : ClientState → ServerInfo → Hint → SavedClient
 saved_in c known hint = record { number = c.number; known = Some known; hint = Some hint }
 
 -- what waits in a session stayed, and so did the bytes of an unfinished frame
-pub record Waits (old new : ClientSession) : Type 0 where
+pub record KeepsWaiting (old new : ClientSession) : Type 0 where
   pub reader : new.core.reader ≡ old.core.reader
   pub waiting : new.waiting ≡ old.waiting
   pub events : new.events ≡ old.events
@@ -75,7 +75,7 @@ pub record ResumesFrom (old : ClientSession) (bytes : List ℕ) (answer : Result
   pub hint : Hint
   pub file : bytes ≡ hint_bytes known hint
   pub resumed : IsResumed old.core.state (saved_in old.core.state known hint) answer new.core.state
-  pub waits : Waits old new
+  pub waits : KeepsWaiting old new
 
 -- what bytes did to a session, as its result says: the client went on with the hint of the file
 -- that they are, or left it; or they are no such file; or memory was refused; or the client refused
@@ -94,11 +94,11 @@ event_record (event.Retrieved i v bytes) = bytes
 event_record _ = []
 
 -- the bytes of the record that the first of these events gives
-abbrev pub record_of : List Event → List ℕ
-record_of [] = []
-record_of (e ∷ es) = event_record e
+abbrev pub record_given : List Event → List ℕ
+record_given [] = []
+record_given (e ∷ es) = event_record e
 
 -- these events without the first
-abbrev pub rest : List Event → List Event
-rest [] = []
-rest (e ∷ es) = es
+abbrev pub later_events : List Event → List Event
+later_events [] = []
+later_events (e ∷ es) = es

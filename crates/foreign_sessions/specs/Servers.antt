@@ -24,7 +24,7 @@ use Rattle.foreign_sessions.specs.declared.server.PieceFault.{PieceFault}
 use Rattle.foreign_sessions.specs.declared.server.PieceFault.TheVariants as fault
 
 -- a server of the snapshot file that these bytes are, with no session and no replies
-pub record Opens (bytes : List ℕ) (s : ServerSession) : Type 0 where
+pub record OpensServer (bytes : List ℕ) (s : ServerSession) : Type 0 where
   pub header : Header
   pub records : List ℕ
   pub snapshot : IsSnapshot header records
@@ -45,7 +45,7 @@ pub record OpensSession (old : ServerSession) (id : ℕ) (answer : Result (Unit 
   pub replies : new.replies ≡ old.replies
 
 -- what a piece of a session did: the replies to it wait now, and no other session changed
-pub record ServesPiece (old : ServerSession) (id : ℕ) (piece : List ℕ) (answer : Result (Unit {0}) FeedError) (new : ServerSession) : Type 0 where
+pub record ServesWholePiece (old : ServerSession) (id : ℕ) (piece : List ℕ) (answer : Result (Unit {0}) FeedError) (new : ServerSession) : Type 0 where
   pub silent : length old.replies.items ≡ 0
   pub fed : (h : History) → StandsFor old.core.store h → (was : Session) → session_of old.core.sessions id ≡ Some was →
       (is : Session) × (session_of new.core.sessions id ≡ Some is)
@@ -56,21 +56,21 @@ pub record ServesPiece (old : ServerSession) (id : ℕ) (piece : List ℕ) (answ
 
 -- what a piece of a session did, as the answer says: replies waited, and nothing changed; or it was
 -- served
-abbrev pub Feeds : ServerSession → ℕ → List ℕ → Result (Unit {0}) PieceFault → ServerSession → Type 0
-Feeds old id piece (Ok done) new = ServesPiece old id piece (Ok done) new
-Feeds old id piece (Err fault.Untaken) new = (0 < length old.replies.items) × (new ≡ old)
-Feeds old id piece (Err (fault.Server e)) new = ServesPiece old id piece (Err e) new
+abbrev pub FeedsServerSession : ServerSession → ℕ → List ℕ → Result (Unit {0}) PieceFault → ServerSession → Type 0
+FeedsServerSession old id piece (Ok done) new = ServesWholePiece old id piece (Ok done) new
+FeedsServerSession old id piece (Err fault.Untaken) new = (0 < length old.replies.items) × (new ≡ old)
+FeedsServerSession old id piece (Err (fault.Server e)) new = ServesWholePiece old id piece (Err e) new
 
 -- What the first frame of a piece did, of which so many bytes were taken: what these do as a piece
 -- of their own. All bytes of the piece are taken, or those up to the end of the first frame that
 -- they make whole, and one at least if there is one. Its reply waits now, and no other session
 -- changed.
-pub record ServesFirst (old : ServerSession) (id : ℕ) (piece : List ℕ) (answer : Result ℕ FeedError) (new : ServerSession) : Type 0 where
+pub record ServesFirstFrame (old : ServerSession) (id : ℕ) (piece : List ℕ) (answer : Result ℕ FeedError) (new : ServerSession) : Type 0 where
   pub silent : length old.replies.items ≡ 0
   pub fed : (h : History) → StandsFor old.core.store h → (was : Session) → session_of old.core.sessions id ≡ Some was →
       (is : Session) × (session_of new.core.sessions id ≡ Some is)
       × FeedsCoreFirst (setting_of old.core.store) h was piece answer new.core.store is old.replies.items new.replies.items
-  pub as_piece : IfOk answer (λ taken. ServesPiece old id (take taken piece) (Ok tt) new)
+  pub as_piece : IfOk answer (λ taken. ServesWholePiece old id (take taken piece) (Ok tt) new)
   pub within : IfOk answer (λ taken. taken ≤ length piece)
   pub some : IfOk answer (λ taken. 0 < length piece → 0 < taken)
   pub no_session : IsErrOf answer feed.NoSession ↔ (session_of old.core.sessions id ≡ None)
@@ -80,14 +80,14 @@ pub record ServesFirst (old : ServerSession) (id : ℕ) (piece : List ℕ) (answ
 
 -- what the first frame of a piece did, as the answer says: replies waited, and nothing changed; or
 -- it was served
-abbrev pub FeedsFirst : ServerSession → ℕ → List ℕ → Result ℕ PieceFault → ServerSession → Type 0
-FeedsFirst old id piece (Ok taken) new = ServesFirst old id piece (Ok taken) new
-FeedsFirst old id piece (Err fault.Untaken) new = (0 < length old.replies.items) × (new ≡ old)
-FeedsFirst old id piece (Err (fault.Server e)) new = ServesFirst old id piece (Err e) new
+abbrev pub FeedsServerFirst : ServerSession → ℕ → List ℕ → Result ℕ PieceFault → ServerSession → Type 0
+FeedsServerFirst old id piece (Ok taken) new = ServesFirstFrame old id piece (Ok taken) new
+FeedsServerFirst old id piece (Err fault.Untaken) new = (0 < length old.replies.items) × (new ≡ old)
+FeedsServerFirst old id piece (Err (fault.Server e)) new = ServesFirstFrame old id piece (Err e) new
 
 -- what an edit of the draft did: the record is replaced in it; or there is no such record, or the
 -- bytes can't be one, or memory was refused, and the store is as it was
-pub record Edits (old : ServerSession) (i : ℕ) (bytes : List ℕ) (answer : Result (Unit {0}) EditError) (new : ServerSession) : Type 0 where
+pub record EditsDraft (old : ServerSession) (i : ℕ) (bytes : List ℕ) (answer : Result (Unit {0}) EditError) (new : ServerSession) : Type 0 where
   pub accepted : OnOk answer (new.core.store ≡ held_edited i bytes old.core.store)
   pub history : OnOk answer ((h : History) → StandsFor old.core.store h → StandsFor new.core.store (after_edit i bytes h))
   pub bad_index : IsErrOf answer edit.BadIndex ↔ (length old.core.store.draft ≤ i)
@@ -98,7 +98,7 @@ pub record Edits (old : ServerSession) (i : ℕ) (bytes : List ℕ) (answer : Re
 
 -- what an append to the draft did: the record comes after the others; or the bytes can't be one, or
 -- there is no layout of one record more, or memory was refused, and the store is as it was
-pub record Appends (old : ServerSession) (bytes : List ℕ) (answer : Result (Unit {0}) AppendError) (new : ServerSession) : Type 0 where
+pub record AppendsToDraft (old : ServerSession) (bytes : List ℕ) (answer : Result (Unit {0}) AppendError) (new : ServerSession) : Type 0 where
   pub accepted : OnOk answer (new.core.store ≡ held_appended bytes old.core.store)
   pub history : OnOk answer ((h : History) → StandsFor old.core.store h → StandsFor new.core.store (after_append bytes h))
   pub bad_length : IsErrOf answer append.BadLength ↔ (fits old.core.store.edition.plan bytes ≡ false)
@@ -110,7 +110,7 @@ pub record Appends (old : ServerSession) (bytes : List ℕ) (answer : Result (Un
 
 -- what a publication did: the draft is the current version, and its number is returned; or there
 -- was nothing to publish, or no further number, or memory was refused, and the store is as it was
-pub record Publishes (old : ServerSession) (answer : Result ℕ PublishError) (new : ServerSession) : Type 0 where
+pub record PublishesDraft (old : ServerSession) (answer : Result ℕ PublishError) (new : ServerSession) : Type 0 where
   pub version : IfOk answer (λ v. (v ≡ old.core.store.version + 1) × (v < 2 ^ 64))
   pub done : OnOk answer (new.core.store ≡ held_published old.core.store)
   pub history : OnOk answer ((h : History) → StandsFor old.core.store h → StandsFor new.core.store (published h))

@@ -10,8 +10,9 @@ ghost use Rattle.pir_schemes.specs.Plans.{client_profile};
 ghost use Rattle.client_core.specs.States.{fresh, fresh_in};
 ghost use Rattle.client_core.specs.Calls.{ClientCall};
 ghost use Rattle.hint_file.specs.Files.{plan_bytes};
-ghost use Rattle.foreign_sessions.specs.Clients.{Answers, Feeds, Resumes, hint_file_of, store_of};
-ghost use Rattle.foreign_sessions.specs.Clients.{record_of, rest};
+ghost use Rattle.foreign_sessions.specs.Clients.{CallsClient, FeedsClientSession, Resumes};
+ghost use Rattle.foreign_sessions.specs.Clients.{hint_file_of, plan_bytes_of};
+ghost use Rattle.foreign_sessions.specs.Clients.{record_given, later_events};
 
 use client_core::{
     CallFault, ClientCore, ClientFault, Event, Plan, SavedClient, Scheme, ServerInfo,
@@ -99,7 +100,7 @@ impl ClientSession {
     /// already, and then nothing changes; else what the client returns. What waits stays if the
     /// client refuses.
     pub fn hello(&mut self, key: [u8; 32]) -> Result<(), SessionFault>
-        ensures { Answers self.old (ClientCall.Hello key) result self.new }
+        ensures { CallsClient self.old (ClientCall.Hello key) result self.new }
     {
         if !self.waiting.is_empty() {
             return Err(SessionFault::Untaken);
@@ -116,7 +117,7 @@ impl ClientSession {
     /// [`ClientCore::sync`], whose bytes wait from then on. `Untaken` as in
     /// [`ClientSession::hello`].
     pub fn sync(&mut self, scheme: Scheme) -> Result<(), SessionFault>
-        ensures { Answers self.old (ClientCall.Sync scheme) result self.new }
+        ensures { CallsClient self.old (ClientCall.Sync scheme) result self.new }
     {
         if !self.waiting.is_empty() {
             return Err(SessionFault::Untaken);
@@ -133,7 +134,7 @@ impl ClientSession {
     /// [`ClientCore::ask`], whose bytes wait from then on. `Untaken` as in
     /// [`ClientSession::hello`].
     pub fn ask(&mut self, index: u32) -> Result<(), SessionFault>
-        ensures { Answers self.old (ClientCall.Ask index) result self.new }
+        ensures { CallsClient self.old (ClientCall.Ask index) result self.new }
     {
         if !self.waiting.is_empty() {
             return Err(SessionFault::Untaken);
@@ -151,7 +152,7 @@ impl ClientSession {
     /// [`ClientSession::hello`].
     pub fn edit(&mut self, index: u32, bytes: &[u8]) -> Result<(), SessionFault>
         requires { length bytes.now ≤ 65535 }
-        ensures { Answers self.old (ClientCall.Edit index bytes.now) result self.new }
+        ensures { CallsClient self.old (ClientCall.Edit index bytes.now) result self.new }
     {
         if !self.waiting.is_empty() {
             return Err(SessionFault::Untaken);
@@ -169,7 +170,7 @@ impl ClientSession {
     /// [`ClientSession::hello`].
     pub fn append(&mut self, bytes: &[u8]) -> Result<(), SessionFault>
         requires { length bytes.now ≤ 65535 }
-        ensures { Answers self.old (ClientCall.Append bytes.now) result self.new }
+        ensures { CallsClient self.old (ClientCall.Append bytes.now) result self.new }
     {
         if !self.waiting.is_empty() {
             return Err(SessionFault::Untaken);
@@ -186,7 +187,7 @@ impl ClientSession {
     /// [`ClientCore::publish`], whose bytes wait from then on. `Untaken` as in
     /// [`ClientSession::hello`].
     pub fn publish(&mut self) -> Result<(), SessionFault>
-        ensures { Answers self.old ClientCall.Publish result self.new }
+        ensures { CallsClient self.old ClientCall.Publish result self.new }
     {
         if !self.waiting.is_empty() {
             return Err(SessionFault::Untaken);
@@ -204,7 +205,7 @@ impl ClientSession {
     /// if bytes or events wait already, and then nothing changes; else what the client returns, and
     /// what it gives waits also if it stops.
     pub fn feed(&mut self, piece: &[u8]) -> Result<(), FeedFault>
-        ensures { Feeds self.old piece.now result self.new }
+        ensures { FeedsClientSession self.old piece.now result self.new }
     {
         if !self.waiting.is_empty() || !self.events.is_empty() {
             return Err(FeedFault::Untaken);
@@ -221,7 +222,7 @@ impl ClientSession {
     /// The bytes that say which store the server's is, by which files of hints are told apart:
     /// `None` before it let the client in.
     pub fn store(&self) -> Option<[u8; STORE_LEN]>
-        ensures { result ≡ store_of self.now.core.state.known }
+        ensures { result ≡ plan_bytes_of self.now.core.state.known }
     {
         let ServerInfo { plan, .. } = self.core.known()?;
         Some(store_bytes(&plan))
@@ -305,7 +306,7 @@ impl ClientSession {
 
     /// How many bytes the record has that the first event gives: 0 if it gives none.
     pub fn first_record_len(&self) -> usize
-        ensures { result ≡ length (record_of self.now.events.items) }
+        ensures { result ≡ length (record_given self.now.events.items) }
     {
         match self.events.first() {
             Some(Event::Retrieved { bytes, .. }) => bytes.as_slice().len(),
@@ -315,8 +316,8 @@ impl ClientSession {
 
     /// Copies the bytes of the record that the first event gives.
     pub fn copy_first_record(&self, out: &mut [u8])
-        requires { length out.old ≡ length (record_of self.now.events.items) }
-        ensures { out.new ≡ record_of self.now.events.items }
+        requires { length out.old ≡ length (record_given self.now.events.items) }
+        ensures { out.new ≡ record_given self.now.events.items }
     {
         if let Some(Event::Retrieved { bytes, .. }) = self.events.first() {
             out.copy_from_slice(bytes.as_slice());
@@ -325,7 +326,7 @@ impl ClientSession {
 
     /// Forgets the first event, if there is one.
     pub fn forget_first_event(&mut self)
-        ensures events { self.new.events.items ≡ rest self.old.events.items }
+        ensures events { self.new.events.items ≡ later_events self.old.events.items }
         ensures core { self.new.core ≡ self.old.core }
         ensures waiting { self.new.waiting ≡ self.old.waiting }
     {

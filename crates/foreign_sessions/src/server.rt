@@ -10,8 +10,9 @@ ghost use Rattle.snapshot_file.specs.Snapshots.{form_bytes};
 ghost use Rattle.snapshot_file.specs.Verdicts.{MayRefuse};
 ghost use Rattle.version_store.specs.Openings.{snapshot_of};
 ghost use Rattle.server_core.specs.Cores.{session_of, is_open};
-ghost use Rattle.foreign_sessions.specs.Servers.{Opens, OpensSession, Feeds, FeedsFirst, Edits};
-ghost use Rattle.foreign_sessions.specs.Servers.{Appends, Publishes};
+ghost use Rattle.foreign_sessions.specs.Servers.{OpensServer, OpensSession, FeedsServerSession};
+ghost use Rattle.foreign_sessions.specs.Servers.{FeedsServerFirst, EditsDraft};
+ghost use Rattle.foreign_sessions.specs.Servers.{AppendsToDraft, PublishesDraft};
 
 use digit_pack::is_wide;
 use lane_kernels::Lanes;
@@ -51,7 +52,7 @@ impl ServerSession {
     /// The faults are those of [`read_snapshot`], in its order; `Memory` also if memory for the
     /// server is refused.
     pub fn open(alloc: Global, bytes: &[u8]) -> Result<ServerSession, SnapshotFault>
-        ensures opened { IfOk result (Opens bytes.now) }
+        ensures opened { IfOk result (OpensServer bytes.now) }
         ensures refused { IfErr result (λ fault. MayRefuse fault bytes.now) }
     {
         let mut left = bytes;
@@ -95,7 +96,7 @@ impl ServerSession {
     /// [`ServerCore::feed`], whose replies wait from then on. `Untaken` exactly if replies wait
     /// already, and then nothing changes; else what the server returns.
     pub fn feed(&mut self, id: u64, piece: &[u8]) -> Result<(), PieceFault>
-        ensures { Feeds self.old id piece.now result self.new }
+        ensures { FeedsServerSession self.old id piece.now result self.new }
     {
         if !self.replies.is_empty() {
             return Err(PieceFault::Untaken);
@@ -112,7 +113,7 @@ impl ServerSession {
     /// time, whatever a piece asks for. `Untaken` exactly when replies wait already, and then
     /// nothing changes; else what the server returns.
     pub fn feed_frame(&mut self, id: u64, piece: &[u8]) -> Result<usize, PieceFault>
-        ensures { FeedsFirst self.old id piece.now result self.new }
+        ensures { FeedsServerFirst self.old id piece.now result self.new }
     {
         if !self.replies.is_empty() {
             return Err(PieceFault::Untaken);
@@ -143,21 +144,21 @@ impl ServerSession {
 
     /// [`ServerCore::edit`].
     pub fn edit(&mut self, i: usize, bytes: &[u8]) -> Result<(), EditError>
-        ensures { Edits self.old i bytes.now result self.new }
+        ensures { EditsDraft self.old i bytes.now result self.new }
     {
         self.core.edit(i, bytes)
     }
 
     /// [`ServerCore::append`].
     pub fn append(&mut self, bytes: &[u8]) -> Result<(), AppendError>
-        ensures { Appends self.old bytes.now result self.new }
+        ensures { AppendsToDraft self.old bytes.now result self.new }
     {
         self.core.append(bytes)
     }
 
     /// [`ServerCore::publish`].
     pub fn publish(&mut self) -> Result<u64, PublishError>
-        ensures { Publishes self.old result self.new }
+        ensures { PublishesDraft self.old result self.new }
     {
         self.core.publish()
     }

@@ -17,7 +17,7 @@ use Rattle.digit_pack.specs.Layout.{Shape, IsShape, digit_matrix, digit_rows, di
 use Rattle.digit_pack.proofs.Changes.{record_change, some_digits}
 use Rattle.digit_pack.proofs.Records.{entry-record, column_inside}
 use Rattle.digit_pack.proofs.DigitSums.{digit-lt}
-use Rattle.hint_changes.specs.Changes.{ChangedRecord, digit_change, record_digit, word_after_change}
+use Rattle.hint_changes.specs.Changes.{ChangedRecord, digit_difference, record_digit, word_after_change}
 
 -- a row in a record's place of the column has one of its digits
 pub row_of_digit : (l : Shape) (i r : ℕ) → r / digits_per_record l ≡ i % l.groups → r ≡ first_row l i + r % digits_per_record l
@@ -64,7 +64,7 @@ word_moves l xs a c r k s inner p q is h m =
     let law : RecordChange l xs i c.new = record_change l xs i c.new s p q in
     let some : 0 < n = some_digits l s in
     let x : ℕ = entry (product d a) r k in
-    let moved : ℕ = (x + digit_change l c (r % n) * entry a col k) % 2 ^ 32 in
+    let moved : ℕ = (x + digit_difference l c (r % n) * entry a col k) % 2 ^ 32 in
     elim (cases_eq (r / n) (i % l.groups)) [
       | inl here ↦
           let t : ℕ = r % n in

@@ -13,7 +13,7 @@ use Rattle.digit_pack.specs.Layout.{Shape, IsShape, digit_cols, digit_rows, digi
 use Rattle.digit_pack.proofs.Changes.{some_digits}
 use Rattle.digit_pack.proofs.Records.{column_inside}
 use Rattle.seed_expand.specs.Words.{word, public_rows}
-use Rattle.hint_changes.specs.Changes.{ChangedRecord, HaveMoved, digit_change, word_after_change, moved}
+use Rattle.hint_changes.specs.Changes.{ChangedRecord, HaveMoved, digit_difference, word_after_change, moved}
 use Rattle.hint_changes.proofs.OneChange.{row_of_digit, place_of_row}
 
 -- a row lies before some rows, or among them, or after them
@@ -28,12 +28,12 @@ outside r first n apart = elim (cases_lt r first) [
 
 -- a word moved by digit d of a record's list of digits is moved by the digit itself
 pub digits_moved : (l : Shape) (c : ChangedRecord) (x y z d : ℕ) → d < digits_per_record l → y ≡ z →
-    (x + (slice_index (record_digits l c.new) d + (2 ^ 32 - slice_index (record_digits l c.old) d)) * y) % 2 ^ 32 ≡ (x + digit_change l c d * z) % 2 ^ 32
+    (x + (slice_index (record_digits l c.new) d + (2 ^ 32 - slice_index (record_digits l c.old) d)) * y) % 2 ^ 32 ≡ (x + digit_difference l c d * z) % 2 ^ 32
 digits_moved l c x y z d low same =
     let n : ℕ = digits_per_record l in
     ap (λ v. (x + (v + (2 ^ 32 - slice_index (record_digits l c.old) d)) * y) % 2 ^ 32) (at-list_of n (λ t. digit l.width (number_of 8 c.new) t) d low)
     ∙ ap (λ v. (x + (digit l.width (number_of 8 c.new) d + (2 ^ 32 - v)) * y) % 2 ^ 32) (at-list_of n (λ t. digit l.width (number_of 8 c.old) t) d low)
-    ∙ ap (λ v. (x + digit_change l c d * v) % 2 ^ 32) same
+    ∙ ap (λ v. (x + digit_difference l c d * v) % 2 ^ 32) same
 
 -- a word of the one row that is made is that of the public matrix
 pub word_of_row : (l : Shape) (seed : List ℕ) (n i k : ℕ) (one : WordMatrix) → IsShape l → i < l.count → one ≡ public_rows seed 0 (column_of l i) 1 n → k < n →
@@ -57,7 +57,7 @@ record_moved l a1 before after public c first s at high done same =
     let new : List ℕ = record_digits l c.new in
     matrix_by_entries after before.rows before.cols (λ r k. word_after_change l a1 r k c (entry before r k)) done.rows done.cols done.whole (λ r k p q.
     let x : ℕ = entry before r k in
-    let then : ℕ = (x + digit_change l c (r % n) * entry a1 (column_of l i) k) % 2 ^ 32 in
+    let then : ℕ = (x + digit_difference l c (r % n) * entry a1 (column_of l i) k) % 2 ^ 32 in
     elim (cases_eq (r / n) (i % l.groups)) [
       | inl here ↦
           let d : ℕ = r % n in

@@ -7,7 +7,7 @@ use Rattle.matrix_u32.proofs.Products.{entry-matrix_of}
 use Rattle.matrix_u32.proofs.Changes.{matrix_by_entries, same-matrix_of}
 use Rattle.matrix_u32.proofs.Rows.{if_here, if_elsewhere}
 use Rattle.digit_pack.specs.Layout.{Shape, IsShape, digit_rows, digits_per_record, column_of, record_digits}
-use Rattle.hint_changes.specs.Changes.{ChangedRecord, HaveMoved, digit_change, moved, rows_in_place, word_after, word_after_change}
+use Rattle.hint_changes.specs.Changes.{ChangedRecord, HaveMoved, digit_difference, moved, rows_in_place, word_after, word_after_change}
 use Rattle.hint_changes.specs.Laws.{OtherPlacesStay}
 use Rattle.hint_changes.proofs.OneRecord.{digits_moved}
 
@@ -25,7 +25,7 @@ other_places l a1 hint c g high inside apart =
     same-matrix_of n hint.cols (λ d k. entry (moved l a1 (c ∷ []) hint) (g * n + d) k) (λ d k. entry hint (g * n + d) k) (λ d k p q.
     word_in_place l a1 hint c g d k high inside p q
     ∙ if_elsewhere ((g * n + d) / n) (c.index % l.groups)
-    ((entry hint (g * n + d) k + digit_change l c ((g * n + d) % n) * entry a1 (column_of l c.index) k) % 2 ^ 32) (entry hint (g * n + d) k)
+    ((entry hint (g * n + d) k + digit_difference l c ((g * n + d) % n) * entry a1 (column_of l c.index) k) % 2 ^ 32) (entry hint (g * n + d) k)
     (λ same. apart (sym same ∙ div-mul-add g n d p)))
 
 -- the rows of a record's own place, moved by the changes of its digits
@@ -55,6 +55,6 @@ own_place l a1 hint before after public c s high is done same =
     ∙ done.moved d k p wide
     ∙ ap (λ y. (y + (slice_index new d + (2 ^ 32 - slice_index old d)) * entry public 0 k) % 2 ^ 32) word
     ∙ digits_moved l c x (entry public 0 k) (entry a1 (column_of l c.index) k) d p (same k wide)
-    ∙ ap (λ t. (x + digit_change l c t * entry a1 (column_of l c.index) k) % 2 ^ 32) (sym low)
-    ∙ sym (if_here (r / n) (c.index % l.groups) ((x + digit_change l c (r % n) * entry a1 (column_of l c.index) k) % 2 ^ 32) x here)
+    ∙ ap (λ t. (x + digit_difference l c t * entry a1 (column_of l c.index) k) % 2 ^ 32) (sym low)
+    ∙ sym (if_here (r / n) (c.index % l.groups) ((x + digit_difference l c (r % n) * entry a1 (column_of l c.index) k) % 2 ^ 32) x here)
     ∙ sym (word_in_place l a1 hint c g d k high inside p q))

@@ -18,15 +18,15 @@ abbrev pub record_digit : Shape → List ℕ → ℕ → ℕ
 record_digit l bytes d = digit l.width (number_of 8 bytes) d
 
 -- a number that is the change of digit d modulo 2 ^ 32
-abbrev pub digit_change : Shape → ChangedRecord → ℕ → ℕ
-digit_change l c d = record_digit l c.new d + (2 ^ 32 - record_digit l c.old d)
+abbrev pub digit_difference : Shape → ChangedRecord → ℕ → ℕ
+digit_difference l c d = record_digit l c.new d + (2 ^ 32 - record_digit l c.old d)
 
 -- word k of row r of a hint after a record changed: if the record has a digit in this row, its
 -- change is added, times word k of the public matrix's row of the record's column
 abbrev pub word_after_change : Shape → WordMatrix → ℕ → ℕ → ChangedRecord → ℕ → ℕ
 word_after_change l a1 r k c x =
     if r / digits_per_record l == c.index % l.groups
-    then (x + digit_change l c (r % digits_per_record l) * entry a1 (column_of l c.index) k) % 2 ^ 32 else x
+    then (x + digit_difference l c (r % digits_per_record l) * entry a1 (column_of l c.index) k) % 2 ^ 32 else x
 
 -- after several changes, one after another
 abbrev pub word_after : Shape → WordMatrix → ℕ → ℕ → List ChangedRecord → ℕ → ℕ

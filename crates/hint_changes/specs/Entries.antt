@@ -26,11 +26,11 @@ abbrev pub changes_in : ℕ → List ℕ → List ChangedRecord
 changes_in len bytes = list_of (entry_count len bytes) (change_in len bytes)
 
 -- the number of the record in entry k
-abbrev pub number_in : ℕ → List ℕ → ℕ → ℕ
-number_in len bytes k = (change_in len bytes k).index
+abbrev pub index_in : ℕ → List ℕ → ℕ → ℕ
+index_in len bytes k = (change_in len bytes k).index
 
 -- whole entries, ascending, of records that there are
 pub record AreEntries (l : Shape) (bytes : List ℕ) : Type 0 where
   pub whole : length bytes % entry_len l.record_len ≡ 0
-  pub inside : (k : ℕ) → k < entry_count l.record_len bytes → number_in l.record_len bytes k < l.count
-  pub ascending : (k : ℕ) → k + 1 < entry_count l.record_len bytes → number_in l.record_len bytes k < number_in l.record_len bytes (k + 1)
+  pub inside : (k : ℕ) → k < entry_count l.record_len bytes → index_in l.record_len bytes k < l.count
+  pub ascending : (k : ℕ) → k + 1 < entry_count l.record_len bytes → index_in l.record_len bytes k < index_in l.record_len bytes (k + 1)

@@ -7,7 +7,7 @@ ghost use Rattle.seed_expand.specs.Words.{public_rows};
 ghost use Rattle.digit_pack.specs.Layout.{digit_cols, digit_rows};
 ghost use Rattle.hint_changes.specs.Changes.{moved};
 ghost use Rattle.hint_changes.specs.Entries.{AreEntries, change_in, changes_in, entry_count};
-ghost use Rattle.hint_changes.specs.Entries.{entry_len, number_in};
+ghost use Rattle.hint_changes.specs.Entries.{entry_len, index_in};
 
 use crate::moving::move_record;
 use crate::public_row::PublicRow;
@@ -29,7 +29,7 @@ pub fn entry_len(record_len: usize) -> usize
 fn number_in(bytes: &[u8], len: usize, k: usize) -> usize
     requires len { len ≤ 256 }
     requires inside { k < entry_count len bytes.now }
-    ensures { result ≡ number_in len bytes.now k }
+    ensures { result ≡ index_in len bytes.now k }
 {
     let at = k * entry_len(len);
     LittleEndian::read_u32(&bytes[at..]) as usize

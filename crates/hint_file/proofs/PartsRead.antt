@@ -20,7 +20,7 @@ use Rattle.client_core.specs.Resuming.{HasRowsOf}
 use Rattle.hint_file.specs.declared.heads.HintFields.{HintFields}
 use Rattle.hint_file.specs.declared.parts.PartSpan.{PartSpan}
 use Rattle.hint_file.specs.Files.{first_digests, part_count, part_digests}
-use Rattle.hint_file.specs.Reading.{words_of, span_len, bytes_at, HasParts, AreParts, among_zeros, IsPartlyRead, span_for}
+use Rattle.hint_file.specs.Reading.{words_of, span_len, bytes_at, HasPartsFrom, AreParts, among_zeros, IsPartlyRead, span_for}
 use Rattle.hint_file.specs.Laws.{RecordRowsAreRead, EachRecordAlike}
 use Rattle.hint_file.proofs.Bytes.{length-sha256}
 use Rattle.hint_file.proofs.PartDigests.{length-part_digests}
@@ -237,7 +237,7 @@ record_rows_are_read known now h head i bytes of has e = record { parts = are_pa
     more_words : first_row (shape_known now) i * head.fields.cols ≤ (first_row (shape_known now) i + digits_per_record (shape_known now)) * head.fields.cols
     more_words = mul-le _ head.fields.cols _ head.fields.cols (omega arith) (omega arith)
 
-    parts : HasParts head (span_for head.fields now i)
+    parts : HasPartsFrom head (span_for head.fields now i)
     parts = record {
       small = rw size of.keepable.fields.small;
       digests = ap length of.digests ∙ length-part_digests (word_bytes h.matrix.words) ∙ ap (λ (n : ℕ). 32 * part_count n) bytes_len;

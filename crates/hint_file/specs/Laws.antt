@@ -7,7 +7,7 @@ use Rattle.client_core.specs.Resuming.{HasRowsOf}
 use Rattle.hint_file.specs.declared.heads.HintFields.{HintFields}
 use Rattle.hint_file.specs.declared.heads.KeptHead.{KeptHead}
 use Rattle.hint_file.specs.Files.{fields_of, part_digests, IsKeepable}
-use Rattle.hint_file.specs.Reading.{bytes_at, span_for, AreParts, Serves, HasRowsFor, IsPartlyRead}
+use Rattle.hint_file.specs.Reading.{bytes_at, span_for, AreParts, ServesClient, HasRowsFor, IsPartlyRead}
 
 -- the head of a hint's file, of words below 2 ^ 32
 pub record IsHeadOf (known : ServerInfo) (h : Hint) (head : KeptHead) : Type 0 where
@@ -30,4 +30,4 @@ RecordRowsAreRead = (known now : ServerInfo) (h : Hint) (head : KeptHead) (i : �
 -- Whether a kept hint has the rows of an existing record depends on the hint and on what is known,
 -- and is the same for each record.
 abbrev pub EachRecordAlike : Type 0
-EachRecordAlike = (f : HintFields) (now : ServerInfo) (i : ℕ) → i < now.count → HasRowsFor f now i ↔ Serves f now
+EachRecordAlike = (f : HintFields) (now : ServerInfo) (i : ℕ) → i < now.count → HasRowsFor f now i ↔ ServesClient f now

@@ -33,7 +33,7 @@ abbrev pub bytes_at : List ℕ → PartSpan → List ℕ
 bytes_at bytes s = take (span_len (length bytes) s) (drop (262144 * s.first) bytes)
 
 -- a head's parts from one of a span on, up to its end, with a digest for each of them
-pub record HasParts (head : KeptHead) (s : PartSpan) : Type 0 where
+pub record HasPartsFrom (head : KeptHead) (s : PartSpan) : Type 0 where
   pub small : words_of head.fields ≤ most_words
   pub digests : HasDigests head.fields head.digests.items
   pub order : s.first ≤ s.end
@@ -43,7 +43,7 @@ pub record HasParts (head : KeptHead) (s : PartSpan) : Type 0 where
 -- bytes of the parts of a span, by the head: as many as the parts have, with the digests that are
 -- there
 pub record AreParts (head : KeptHead) (s : PartSpan) (bytes : List ℕ) : Type 0 where
-  pub parts : HasParts head s
+  pub parts : HasPartsFrom head s
   pub count : length bytes ≡ span_len (4 * words_of head.fields) s
   pub same : part_digests bytes ≡ take (32 * (s.end - s.first)) (drop (32 * s.first) head.digests.items)
 
@@ -62,7 +62,7 @@ pub record IsPartlyRead (head : KeptHead) (s : PartSpan) (bytes : List ℕ) (hin
 
 -- a hint of these fields serves a client that knows this: it is of SimplePIR, of the plan and the
 -- version known, with the rows and columns of its layout
-pub record Serves (f : HintFields) (now : ServerInfo) : Type 0 where
+pub record ServesClient (f : HintFields) (now : ServerInfo) : Type 0 where
   pub scheme : f.scheme ≡ Simple
   pub version : f.version ≡ now.version
   pub plan : f.known.plan ≡ now.plan
@@ -73,7 +73,7 @@ pub record Serves (f : HintFields) (now : ServerInfo) : Type 0 where
 -- the hint serves, and the version has a record i: that it has the record's rows depends on the
 -- record in no other way
 pub record HasRowsFor (f : HintFields) (now : ServerInfo) (i : ℕ) : Type 0 where
-  pub serves : Serves f now
+  pub serves : ServesClient f now
   pub index : i < now.count
 
 -- the parts that have the rows of record i

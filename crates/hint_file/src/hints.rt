@@ -34,7 +34,7 @@ pub struct HintFile<'a> {
 
 /// Why a file was not written as a whole.
 #[derive(Clone, Copy, Debug, PartialEq, Eq, Error)]
-pub enum WriteFault {
+pub enum HintWriteFault {
     /// A write failed, or took no byte.
     #[error("a write failed")]
     Write,
@@ -43,13 +43,13 @@ pub enum WriteFault {
     Memory,
 }
 
-impl From<AllocError> for WriteFault {
-    ghost use Rattle.hint_file.specs.declared.hints.WriteFault.TheVariants.{Memory};
+impl From<AllocError> for HintWriteFault {
+    ghost use Rattle.hint_file.specs.declared.hints.HintWriteFault.TheVariants.{Memory};
 
     ghost from_gives = { λ _ fault. fault ≡ Memory };
 
     fn from(_refused: AllocError) -> Self {
-        WriteFault::Memory
+        HintWriteFault::Memory
     }
 }
 
@@ -60,12 +60,12 @@ impl HintFile<'_> {
     ///
     /// `Write` when a write failed, `Memory` when memory was refused. How many bytes went out is
     /// not said.
-    pub fn write_to<W: Write>(&self, alloc: Global, writer: &mut W) -> Result<(), WriteFault>
+    pub fn write_to<W: Write>(&self, alloc: Global, writer: &mut W) -> Result<(), HintWriteFault>
         ensures { OnOk result (Appends (W.contents writer.old) (W.contents writer.new)
             (self.now.head.items ++ word_bytes self.now.words.now)) }
     {
         if writer.write_all(&self.head).is_err() {
-            return Err(WriteFault::Write);
+            return Err(HintWriteFault::Write);
         }
         write_words(alloc, self.words, writer)
     }
@@ -90,7 +90,7 @@ impl HintFile<'_> {
 }
 
 // Writes four bytes for each word. No more than the bytes of one part are in memory at once.
-fn write_words<W: Write>(alloc: Global, words: &[u32], writer: &mut W) -> Result<(), WriteFault>
+fn write_words<W: Write>(alloc: Global, words: &[u32], writer: &mut W) -> Result<(), HintWriteFault>
     ensures { OnOk result
         (Appends (W.contents writer.old) (W.contents writer.new) (word_bytes words.now)) }
 {
@@ -101,7 +101,7 @@ fn write_words<W: Write>(alloc: Global, words: &[u32], writer: &mut W) -> Result
         bytes.clear();
         add_words(&mut bytes, part)?;
         if writer.write_all(&bytes).is_err() {
-            return Err(WriteFault::Write);
+            return Err(HintWriteFault::Write);
         }
         rest = beyond;
     }

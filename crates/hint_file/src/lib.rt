@@ -21,7 +21,7 @@ mod texts;
 mod word_bytes;
 
 pub use heads::{HintError, HintFields, KeptHead, MOST_HEAD, head_in, is_no_newer};
-pub use hints::{HintFile, KeptHint, WriteFault, hint_file, hint_file_len};
+pub use hints::{HintFile, HintWriteFault, KeptHint, hint_file, hint_file_len};
 pub use partial::{
     are_parts, empty_part, head_to_fetch, part_ask, part_digest, partial_front, whole_head,
 };

@@ -4,7 +4,8 @@ ghost use Rattle.std.specs.Prelude.{◌≡◌, ◌+◌, ◌-◌, ◌*◌, ◌↔
 ghost use Rattle.std.specs.Prelude.{IsTrue, MatchOption, IsErrOf};
 ghost use Rattle.digit_pack.specs.Layout.{IsLayout, digit_rows};
 ghost use Rattle.client_core.specs.States.{shape_known};
-ghost use Rattle.hint_file.specs.Reading.{AreParts, HasParts, HasRowsFor, IsPartlyRead, Serves};
+ghost use Rattle.hint_file.specs.Reading.{AreParts, HasPartsFrom, HasRowsFor, IsPartlyRead};
+ghost use Rattle.hint_file.specs.Reading.{ServesClient};
 ghost use Rattle.hint_file.specs.Reading.{span_for, span_len, words_of};
 
 use crate::digests::{PART_LEN, digests_of};
@@ -49,7 +50,7 @@ fn has_layout(fields: &HintFields, now: &ServerInfo) -> bool
 /// the plan and the version known, with the rows and columns of its layout. What the client sends
 /// next depends on this, and not on the record that it wants.
 pub fn serves(head: &KeptHead, now: &ServerInfo) -> bool
-    ensures { IsTrue result ↔ Serves head.now.fields now.now }
+    ensures { IsTrue result ↔ ServesClient head.now.fields now.now }
 {
     is_current(&head.fields, now) && has_layout(&head.fields, now)
 }
@@ -79,7 +80,7 @@ pub fn parts_for(head: &KeptHead, now: &ServerInfo, index: u32) -> Option<PartSp
 /// Where the parts of a span are in the file of this head, and how many bytes they have; none
 /// exactly when the hint has no such parts.
 pub fn place_of(head: &KeptHead, span: PartSpan) -> Option<(u64, usize)>
-    ensures { MatchOption result (¬ HasParts head.now span) (λ place. HasParts head.now span
+    ensures { MatchOption result (¬ HasPartsFrom head.now span) (λ place. HasPartsFrom head.now span
         × (place.0 ≡ 118 + length head.now.digests.items + 262144 * span.first)
         × (place.1 ≡ span_len (4 * words_of head.now.fields) span)) }
 {

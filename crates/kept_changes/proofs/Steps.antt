@@ -6,9 +6,9 @@ use Rattle.pir_schemes.specs.declared.plan.Plan.{Plan}
 use Rattle.pir_schemes.specs.Plans.{shape_at, first_public}
 use Rattle.client_core.specs.declared.state.Hint.{Hint}
 use Rattle.change_file.specs.declared.blocks.WholeBlock.{WholeBlock}
-use Rattle.change_file.specs.Files.{HintMove, IsNext, block_len, last_version, move_of, moves_in, next_link}
+use Rattle.change_file.specs.Files.{HintMove, IsNextBlock, block_len, last_version, move_of, moves_in, next_block_link}
 use Rattle.change_file.proofs.Chains.{moves_more}
-use Rattle.kept_changes.specs.Moves.{AreMovesOf, IsMoveOf, IsMovedOn, IsMovedWhole, moved_once, moved_through, record_rows}
+use Rattle.kept_changes.specs.Moves.{AreMovesOf, IsMoveOf, IsMovedOn, IsMovedWhole, hint_after_move, moved_through, record_rows}
 use Rattle.kept_changes.proofs.Alike.{moved_alike}
 
 -- no move
@@ -24,7 +24,7 @@ one_and_more p i m ms before now after one more = record {
   rows = more.rows ∙ one.rows;
   cols = more.cols ∙ one.cols;
   moved = λ whole high wide same.
-      more.moved (moved_once p m whole) (high ∙ sym one.rows) (wide ∙ sym one.cols) (one.moved whole high wide same);
+      more.moved (hint_after_move p m whole) (high ∙ sym one.rows) (wide ∙ sym one.cols) (one.moved whole high wide same);
 }
 
 -- the same of a whole hint
@@ -49,13 +49,13 @@ pub record IsUnderWay (p : Plan) (Moves : List HintMove → Hint → Hint → Ty
   pub back : AreMovesOf p left → AreMovesOf p all
 
 -- the moves left begin with that of the next block
-pub first_of_left : (link rest more : List ℕ) (version : ℕ) (next : WholeBlock) → IsNext link version rest next → more ≡ drop next.len rest →
+pub first_of_left : (link rest more : List ℕ) (version : ℕ) (next : WholeBlock) → IsNextBlock link version rest next → more ≡ drop next.len rest →
     moves_in link version rest ≡ move_of next.block ∷ moves_in next.link.bytes next.block.version more
 first_of_left link rest more version next it e =
     let m : HintMove = move_of next.block in
     let place : drop (block_len m) rest ≡ more = ap (λ (n : ℕ). drop n rest) (sym it.len) ∙ sym e in
     moves_more link rest version m it.move
-    ∙ ap (λ (x : List ℕ). m ∷ moves_in (next_link link m) m.version x) place
+    ∙ ap (λ (x : List ℕ). m ∷ moves_in (next_block_link link m) m.version x) place
     ∙ ap (λ (x : List ℕ). m ∷ moves_in x m.version more) (sym it.link_is)
 
 -- one more
@@ -87,7 +87,7 @@ fails p Moves all left more m first now is e bad =
 pub one_block : (p : Plan) (i : ℕ) (m : HintMove) (before after : Hint) → before.matrix.rows ≡ digit_rows (shape_at p (i + 1)) →
     i % p.groups < p.groups → after.scheme ≡ before.scheme → after.version ≡ m.version →
     after.matrix.rows ≡ before.matrix.rows → after.matrix.cols ≡ before.matrix.cols →
-    record_rows p i after.matrix ≡ record_rows p i (moved_once p m before.matrix) → IsMovedOn p i (m ∷ []) before after
+    record_rows p i after.matrix ≡ record_rows p i (hint_after_move p m before.matrix) → IsMovedOn p i (m ∷ []) before after
 one_block p i m before after high inside scheme version rows cols moved = record {
   scheme = scheme;
   version = version;

@@ -17,7 +17,7 @@ use Rattle.client_core.specs.declared.state.Hint.{Hint}
 use Rattle.client_core.specs.States.{shape_known}
 use Rattle.client_core.specs.Replies.{hint_with_entries}
 use Rattle.change_file.specs.Files.{HintMove, last_version}
-use Rattle.kept_changes.specs.Moves.{IsMoveOf, IsMovedWhole, moved_once, moved_through, record_rows}
+use Rattle.kept_changes.specs.Moves.{IsMoveOf, IsMovedWhole, hint_after_move, moved_through, record_rows}
 use Rattle.kept_changes.specs.Laws.{MovedRowsAreOfTheWhole, MovedRowsAreTheHints, RowsMoveAlike, TrueMovesMakeTheHint, hint_through}
 use Rattle.kept_changes.proofs.Alike.{moved_alike, same_words}
 use Rattle.kept_changes.proofs.Steps.{no_move_of_whole}
@@ -26,7 +26,7 @@ use Rattle.kept_changes.proofs.Steps.{no_move_of_whole}
 
 -- one move
 pub one_alike : (p : Plan) (i : ℕ) (m : HintMove) (one other : WordMatrix) → IsMoveOf p m → one.rows ≡ digit_rows (shape_at p (i + 1)) →
-    other.rows ≡ one.rows → record_rows p i one ≡ record_rows p i other → record_rows p i (moved_once p m one) ≡ record_rows p i (moved_once p m other)
+    other.rows ≡ one.rows → record_rows p i one ≡ record_rows p i other → record_rows p i (hint_after_move p m one) ≡ record_rows p i (hint_after_move p m other)
 one_alike p i m one other is high tall same =
     moved_alike (shape_at p m.count) (first_public (shape_at p m.count) p.dimension p.seed) one other (changes_in p.record_len m.entries) (i % p.groups)
     high (tall ∙ high) (mod_below i p.groups (omega (arith, is.layout.groups.0))) same
@@ -34,7 +34,7 @@ one_alike p i m one other is high tall same =
 pub all_alike : RowsMoveAlike
 all_alike p i [] one other are high tall same = same
 all_alike p i (m ∷ ms) one other are high tall same =
-    all_alike p i ms (moved_once p m one) (moved_once p m other) are.1 high tall (one_alike p i m one other are.0 high tall same)
+    all_alike p i ms (hint_after_move p m one) (hint_after_move p m other) are.1 high tall (one_alike p i m one other are.0 high tall same)
 
 -- ---- rows of the whole hint
 
@@ -84,8 +84,8 @@ true_moves p (m ∷ ms) hint last are steps =
     let l : Shape = shape_at p m.count in
     let a1 : WordMatrix = first_public l p.dimension p.seed in
     let next : WordMatrix = steps.0 in
-    let step : moved_once p m hint ≡ next =
-    ap (moved_once p m) steps.1.was
+    let step : hint_after_move p m hint ≡ next =
+    ap (hint_after_move p m) steps.1.was
     ∙ changes_lead l (changes_in p.record_len m.entries) steps.1.before steps.1.after a1 (shape_of_layout l are.0.layout) (omega arith) steps.1.lead
     ∙ sym steps.1.is in
     ap (moved_through p ms) step ∙ true_moves p ms next last are.1 steps.2

@@ -8,10 +8,10 @@ use Rattle.pir_schemes.specs.declared.plan.Plan.{Plan}
 use Rattle.pir_schemes.specs.Plans.{shape_at, first_public}
 use Rattle.client_core.specs.declared.state.Hint.{Hint}
 use Rattle.change_file.specs.Files.{HintMove, last_version}
-use Rattle.kept_changes.specs.declared.moving.Change.{Change}
+use Rattle.kept_changes.specs.declared.moving.EntryChange.{EntryChange}
 
 -- a change that is lent
-abbrev pub changed_record : Change → ChangedRecord
+abbrev pub changed_record : EntryChange → ChangedRecord
 changed_record c = record { index = c.index; old = c.old.now; new = c.new.now }
 
 -- a move that a hint of this plan can be moved by: there is a layout of so many records, and its
@@ -26,13 +26,13 @@ AreMovesOf p [] = Unit {0}
 AreMovesOf p (m ∷ ms) = IsMoveOf p m × AreMovesOf p ms
 
 -- a hint after one move
-abbrev pub moved_once : Plan → HintMove → WordMatrix → WordMatrix
-moved_once p m hint = moved (shape_at p m.count) (first_public (shape_at p m.count) p.dimension p.seed) (changes_in p.record_len m.entries) hint
+abbrev pub hint_after_move : Plan → HintMove → WordMatrix → WordMatrix
+hint_after_move p m hint = moved (shape_at p m.count) (first_public (shape_at p m.count) p.dimension p.seed) (changes_in p.record_len m.entries) hint
 
 -- a hint after moves, one after another
 abbrev pub moved_through : Plan → List HintMove → WordMatrix → WordMatrix
 moved_through p [] hint = hint
-moved_through p (m ∷ ms) hint = moved_through p ms (moved_once p m hint)
+moved_through p (m ∷ ms) hint = moved_through p ms (hint_after_move p m hint)
 
 -- the rows of a hint in which record i has its digits; how many records there are has no part in it
 abbrev pub record_rows : Plan → ℕ → WordMatrix → WordMatrix

@@ -23,8 +23,8 @@ IsJudgedMove p asked m NoChanges = ⊥
 IsJudgedMove p asked m Other = ¬ IsMoveAsked p asked m
 
 -- what a frame says as a reply; of all kinds two are replies to this ask
-abbrev pub IsJudged : Plan → ℕ → Frame → ChangesReply → Type 0
-IsJudged p asked (frame.Changes since now count entries) reply =
+abbrev pub IsJudgedReply : Plan → ℕ → Frame → ChangesReply → Type 0
+IsJudgedReply p asked (frame.Changes since now count entries) reply =
     IsJudgedMove p asked (record { since = since; version = now; count = count; entries = entries }) reply
-IsJudged p asked (frame.NoDelta version count) reply = reply ≡ NoChanges
-IsJudged p asked _ reply = reply ≡ Other
+IsJudgedReply p asked (frame.NoDelta version count) reply = reply ≡ NoChanges
+IsJudgedReply p asked _ reply = reply ≡ Other

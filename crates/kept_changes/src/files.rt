@@ -108,7 +108,7 @@ fn rows_through<K: Kernel>(
 ///
 /// The plan's dimension is within the limits for whoever has been let in (`IsKnown`), and the hint
 /// has the rows and columns of the plan if `hint_file::parts_for` has found that it serves
-/// (`Serves`). A row of the public matrix is all the memory that is taken.
+/// (`ServesClient`). A row of the public matrix is all the memory that is taken.
 ///
 /// # Errors
 ///

@@ -5,7 +5,7 @@ ghost use Rattle.seed_expand.specs.Words.{public_rows};
 ghost use Rattle.digit_pack.specs.Layout.{digit_cols, digit_rows};
 ghost use Rattle.hint_changes.specs.Changes.{moved, rows_in_place};
 ghost use Rattle.hint_changes.specs.Entries.{AreEntries, change_in, changes_in, entry_count};
-ghost use Rattle.hint_changes.specs.Entries.{number_in};
+ghost use Rattle.hint_changes.specs.Entries.{index_in};
 ghost use Rattle.kept_changes.specs.Moves.{changed_record};
 
 use byteorder::{ByteOrder, LittleEndian};
@@ -15,7 +15,7 @@ use matrix_u32::{Kernel, Matrix};
 
 /// A record that changed: its number, and the bytes that it had and has in the digits.
 #[derive(Clone, Copy)]
-pub(crate) struct Change<'a> {
+pub(crate) struct EntryChange<'a> {
     pub(crate) index: usize,
     pub(crate) old: &'a [u8],
     pub(crate) new: &'a [u8],
@@ -25,20 +25,20 @@ pub(crate) struct Change<'a> {
 fn number_in(entries: &[u8], len: usize, k: usize) -> usize
     requires len { len ≤ 256 }
     requires inside { k < entry_count len entries.now }
-    ensures { result ≡ number_in len entries.now k }
+    ensures { result ≡ index_in len entries.now k }
 {
     let at = k * entry_len(len);
     LittleEndian::read_u32(&entries[at..]) as usize
 }
 
 // The change in entry k.
-pub(crate) fn change_in(entries: &[u8], len: usize, k: usize) -> Change<'_>
+pub(crate) fn change_in(entries: &[u8], len: usize, k: usize) -> EntryChange<'_>
     requires len { len ≤ 256 }
     requires inside { k < entry_count len entries.now }
     ensures { changed_record result ≡ change_in len entries.now k }
 {
     let at = k * entry_len(len);
-    Change {
+    EntryChange {
         index: number_in(entries, len, k),
         old: &entries[at + 4..at + 4 + len],
         new: &entries[at + (4 + len)..at + (4 + len) + len],
@@ -52,7 +52,7 @@ fn move_by_change<K: Kernel>(
     public: &mut PublicRow,
     hint: &mut Matrix,
     place: usize,
-    change: &Change<'_>,
+    change: &EntryChange<'_>,
 )
     requires index { change.now.index < layout.now.count }
     requires old { length change.now.old.now ≡ layout.now.record_len }

@@ -6,10 +6,10 @@ ghost use Rattle.frame_codec.specs.Frames.{encoding};
 ghost use Rattle.change_file.specs.Files.{move_of};
 ghost use Rattle.pir_schemes.specs.Plans.{is_slot_of};
 ghost use Rattle.client_core.specs.Replies.{have_slots};
-ghost use Rattle.kept_changes.specs.Replies.{IsJudged, IsMoveAsked};
+ghost use Rattle.kept_changes.specs.Replies.{IsJudgedReply, IsMoveAsked};
 
 use crate::files::layout_for;
-use crate::moving::{Change, change_in};
+use crate::moving::{EntryChange, change_in};
 use change_file::Block;
 use client_core::{Plan, ServerInfo};
 use digit_pack::{is_slotted, read_slot};
@@ -50,7 +50,7 @@ fn is_slot(plan: &Plan, bytes: &[u8]) -> bool
 }
 
 // Whether the old and the new bytes of a change are those of a record of the plan.
-fn has_slots(plan: &Plan, change: &Change<'_>) -> bool
+fn has_slots(plan: &Plan, change: &EntryChange<'_>) -> bool
     ensures { result ≡ (is_slot_of plan.now change.now.old.now
         && is_slot_of plan.now change.now.new.now) }
 {
@@ -86,7 +86,7 @@ fn is_asked(plan: &Plan, asked: u64, block: &Block<'_>) -> bool
 /// 0, whose records have a layout with the plan known, and are of these records, ascending, with
 /// the bytes of records.
 pub fn judged<'a>(known: &ServerInfo, since: u64, reply: &'a Frame) -> ChangesReply<'a>
-    ensures { IsJudged known.now.plan since reply.now result }
+    ensures { IsJudgedReply known.now.plan since reply.now result }
 {
     match reply {
         Frame::Changes {

@@ -80,7 +80,7 @@ fn whole_through<K: Kernel>(
 ///
 /// The plan's dimension is within the limits for whoever has been let in (`IsKnown`), and the hint
 /// has the rows and columns of the plan, however many records there are, if it serves
-/// (`hint_file::Serves`). Its rows of one record are then those of `rows_after`
+/// (`ServesClient` of `hint_file`). Its rows of one record are then those of `rows_after`
 /// (`laws::rows_are_of_the_whole`). A row of the public matrix is all the memory that is taken.
 ///
 /// # Errors

@@ -6,7 +6,7 @@ use Rattle.std.proofs.lemmas.List.{length-set, length-append}
 use Rattle.pir_schemes.specs.declared.plan.Plan.{Plan}
 use Rattle.pir_schemes.specs.Plans.{fits}
 use Rattle.publication_log.specs.Publications.{Placed, Published, changes_bytes, IsPlaced, AreChanges}
-use Rattle.version_store.specs.Histories.{StoreState, Change, Edited, Appended, held_edited, held_appended, held_after}
+use Rattle.version_store.specs.Histories.{StoreState, StoreChange, Edited, Appended, held_edited, held_appended, held_after}
 use Rattle.log_replay.specs.Replays.{record_changed, count_after, has_place, are_changes_of, edit_or_append, edits_and_appends, is_replayable}
 
 -- ---- changes that are read one after another
@@ -60,7 +60,7 @@ length_changed records c = by_place (nat_lt c.place (length records))
 unfoldable pub held_change : StoreState → Placed → StoreState
 held_change s c = cond (nat_lt c.place (length s.draft)) (held_edited c.place c.bytes s) (held_appended c.bytes s)
 
-pub held_after_change : (s : StoreState) (c : Placed) (more : List Change) → held_after (edit_or_append (length s.draft) c ∷ more) s ≡ held_after more (held_change s c)
+pub held_after_change : (s : StoreState) (c : Placed) (more : List StoreChange) → held_after (edit_or_append (length s.draft) c ∷ more) s ≡ held_after more (held_change s c)
 unfolding held_change
 held_after_change s c more = by_place (nat_lt c.place (length s.draft))
   where

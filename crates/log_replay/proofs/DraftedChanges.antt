@@ -13,17 +13,17 @@ use Rattle.pir_schemes.specs.Plans.{fits, shape_at}
 use Rattle.publication_log.specs.Publications.{Placed}
 use Rattle.version_store.specs.Histories.{StoreState}
 use Rattle.version_store.specs.DraftChanges.{IsUnchangedAt, IsNextChange, HasNoChange}
-use Rattle.log_replay.specs.Replays.{record_changed, records_after, count_after, has_place, are_changes_of, IsDraftMade}
+use Rattle.log_replay.specs.Replays.{record_changed, records_replayed, count_after, has_place, are_changes_of, IsDraftMade}
 use Rattle.log_replay.proofs.ChangeLemmas.{length_changed}
 
 -- ---- one more change
 
-records_push : (rs : List (List ℕ)) (cs : List Placed) (c : Placed) → records_after rs (cs ++ c ∷ []) ≡ record_changed (records_after rs cs) c
+records_push : (rs : List (List ℕ)) (cs : List Placed) (c : Placed) → records_replayed rs (cs ++ c ∷ []) ≡ record_changed (records_replayed rs cs) c
 records_push rs [] c = refl
 records_push rs (d ∷ cs) c = records_push (record_changed rs d) cs c
 
 changes_push : (p : Plan) (rs : List (List ℕ)) (cs : List Placed) (c : Placed) → are_changes_of p (length rs) cs ≡ true →
-    (has_place p (length (records_after rs cs)) c.place && fits p c.bytes) ≡ true → are_changes_of p (length rs) (cs ++ c ∷ []) ≡ true
+    (has_place p (length (records_replayed rs cs)) c.place && fits p c.bytes) ≡ true → are_changes_of p (length rs) (cs ++ c ∷ []) ≡ true
 changes_push p rs [] c each last = and_from _ _ last refl
 changes_push p rs (d ∷ cs) c each last =
     let parts = and_parts _ _ each in
@@ -143,7 +143,7 @@ pub record IsMadeUpTo (s : StoreState) (low : ℕ) (cs : List Placed) : Type 0 w
   pub inside : low ≤ length s.draft
   pub some : length cs ≡ 0 → low ≡ 0
   pub each : are_changes_of s.edition.plan (length s.edition.records) cs ≡ true
-  pub made : records_after s.edition.records cs ≡ mixed s low
+  pub made : records_replayed s.edition.records cs ≡ mixed s low
 
 pub none_made : (s : StoreState) → IsMadeUpTo s 0 []
 unfolding mixed
@@ -153,8 +153,8 @@ pub one_made : (s : StoreState) (low i : ℕ) (bytes : List ℕ) (cs : List Plac
     IsMadeUpTo s (i + 1) (cs ++ record { place = i; bytes = bytes } ∷ [])
 one_made s low i bytes cs made next =
     let c : Placed = placed i bytes in
-    let same : records_after s.edition.records cs ≡ mixed s i = made.made ∙ up_to s low i next.at (omega (arith, next.inside)) next.between in
-    let place : has_place s.edition.plan (length (records_after s.edition.records cs)) i ≡ true =
+    let same : records_replayed s.edition.records cs ≡ mixed s i = made.made ∙ up_to s low i next.at (omega (arith, next.inside)) next.between in
+    let place : has_place s.edition.plan (length (records_replayed s.edition.records cs)) i ≡ true =
     ap (λ (rs : List (List ℕ)). has_place s.edition.plan (length rs) i) same ∙ place_had s i next.inside next.layout in
     record {
       inside = omega (arith, next.inside);

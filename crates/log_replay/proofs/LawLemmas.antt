@@ -12,7 +12,7 @@ use Rattle.version_store.specs.Histories.{StoreState, held_edited, held_appended
 use Rattle.version_store.specs.OldRecords.{olds_replaced, with_olds}
 use Rattle.version_store.proofs.OldsKept.{ordinary_keeps}
 use Rattle.version_store.specs.Openings.{held_of, plan_held, records_for}
-use Rattle.log_replay.specs.Replays.{record_changed, records_after, edits_and_appends, replayed, replayed_all}
+use Rattle.log_replay.specs.Replays.{record_changed, records_replayed, edits_and_appends, replayed, replayed_all}
 use Rattle.log_replay.specs.Records.{AreRecordsReplayed}
 use Rattle.log_replay.specs.Laws.{ReplayedIsPublished, DraftIsReplayed, RecordsReplayAlike, LastSixteenSuffice, with_logs}
 use Rattle.log_replay.proofs.OldsMeet.{MeetAfter, few_kept, met, one_more_kept}
@@ -38,12 +38,12 @@ pub is_published : ReplayedIsPublished
 is_published p s = by_changes p.changes s
   where
     by_changes : (cs : List Placed) (s : StoreState) → held_published (held_after (edits_and_appends (length s.draft) cs) s)
-        ≡ held_published (record s { draft = records_after s.draft cs })
+        ≡ held_published (record s { draft = records_replayed s.draft cs })
     by_changes [] s = refl
     by_changes (c ∷ cs) s =
         ap held_published (held_first s c cs)
         ∙ by_changes cs (held_change s c)
-        ∙ ap (λ (t : StoreState). held_published (record t { draft = records_after t.draft cs })) (changed_only s c)
+        ∙ ap (λ (t : StoreState). held_published (record t { draft = records_replayed t.draft cs })) (changed_only s c)
 
 pub draft_replayed : DraftIsReplayed
 draft_replayed s p is =
@@ -66,21 +66,21 @@ opened h records = record {
 one_alike : (h h' : Header) (bytes bytes' : List ℕ) (p : Published) → AreRecordsReplayed h bytes p h' bytes' →
     held_of h' bytes' ≡ with_logs [] [] (replayed p (held_of h bytes))
 one_alike h h' bytes bytes' p is =
-    let rs : List (List ℕ) = records_after (records_for h bytes) p.changes in
+    let rs : List (List ℕ) = records_replayed (records_for h bytes) p.changes in
     ap (opened h') is.held ∙ ap (λ (k : Header). opened k rs) is.header ∙ ap (with_logs [] []) (sym (is_published p (held_of h bytes)))
 
 -- ---- logs of changed rows
 
 -- the rows that a publication changes
 abbrev rows_of : Published → StoreState → List ℕ
-rows_of p s = draft_rows (record s { draft = records_after s.draft p.changes })
+rows_of p s = draft_rows (record s { draft = records_replayed s.draft p.changes })
 
 abbrev logged : Published → StoreState → List (List ℕ) → List (List ℕ)
 logged p s log = take 16 (rows_of p s ∷ log)
 
 -- the old bytes that are kept with those of a publication
 abbrev kept : Published → StoreState → List (List OldRecord) → List (List OldRecord)
-kept p s olds = with_olds s.edition.plan olds (olds_replaced s.edition.plan s.edition.records (records_after s.draft p.changes))
+kept p s olds = with_olds s.edition.plan olds (olds_replaced s.edition.plan s.edition.records (records_replayed s.draft p.changes))
 
 -- a store with other logs differs after a publication in its logs alone
 other_logs : (p : Published) (s : StoreState) (log : List (List ℕ)) (olds : List (List OldRecord)) →
@@ -136,7 +136,7 @@ few_olds p s few =
     omega (
       arith,
       ap length (olds_is p s),
-      few_kept s.edition.plan s.olds (olds_replaced s.edition.plan s.edition.records (records_after s.draft p.changes)) few,
+      few_kept s.edition.plan s.olds (olds_replaced s.edition.plan s.edition.records (records_replayed s.draft p.changes)) few,
     )
 
 all_few : (ps : List Published) (s : StoreState) → length s.olds ≤ 16 → length (replayed_all ps s).olds ≤ 16
@@ -151,7 +151,7 @@ none_kept (p ∷ ps) s none =
     none_kept ps (replayed p s) (λ ordinary.
     let still : is_wide s.edition.plan.form ≡ false = ap (λ (q : Plan). is_wide q.form) (sym (plan_is p s)) ∙ ordinary in
     olds_is p s
-    ∙ ordinary_keeps s.edition.plan s.olds (olds_replaced s.edition.plan s.edition.records (records_after s.draft p.changes)) still
+    ∙ ordinary_keeps s.edition.plan s.olds (olds_replaced s.edition.plan s.edition.records (records_replayed s.draft p.changes)) still
     ∙ none still)
 
 meet_next : (p : Published) (s : StoreState) (olds : List (List OldRecord)) (n : ℕ) → MeetAfter s.edition.plan n olds s.olds →
@@ -159,7 +159,7 @@ meet_next : (p : Published) (s : StoreState) (olds : List (List OldRecord)) (n :
 meet_next p s olds n meet =
     subst (λ (q : Plan). MeetAfter q (suc n) (kept p s olds) (replayed p s).olds) (sym (plan_is p s))
     (subst (MeetAfter s.edition.plan (suc n) (kept p s olds)) (sym (olds_is p s))
-    (one_more_kept s.edition.plan n olds s.olds (olds_replaced s.edition.plan s.edition.records (records_after s.draft p.changes)) meet))
+    (one_more_kept s.edition.plan n olds s.olds (olds_replaced s.edition.plan s.edition.records (records_replayed s.draft p.changes)) meet))
 
 same_logs : (s : StoreState) (log : List (List ℕ)) (olds : List (List OldRecord)) → log ≡ s.log → olds ≡ s.olds → with_logs log olds s ≡ s
 same_logs s log olds rows bytes =

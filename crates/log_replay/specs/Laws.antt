@@ -5,13 +5,13 @@ use Rattle.record_log.specs.OldRecords.{OldRecord}
 use Rattle.snapshot_file.specs.declared.snapshot.Header.{Header}
 use Rattle.version_store.specs.Histories.{StoreState, held_published, without_draft}
 use Rattle.version_store.specs.Openings.{held_of}
-use Rattle.log_replay.specs.Replays.{records_after, replayed, replayed_all, IsDraftOf}
+use Rattle.log_replay.specs.Replays.{records_replayed, replayed, replayed_all, IsDraftOf}
 use Rattle.log_replay.specs.Records.{AreRecordsReplayed}
 
 -- what a store keeps after a publication is its own publication of a draft with the changes
 abbrev pub ReplayedIsPublished : Type 0
 ReplayedIsPublished = (p : Published) (s : StoreState) →
-    replayed p s ≡ held_published (record s { draft = records_after s.draft p.changes })
+    replayed p s ≡ held_published (record s { draft = records_replayed s.draft p.changes })
 
 -- the publication of a store's draft, replayed on the store without its draft, gives what the
 -- store's own publication gives

@@ -5,7 +5,7 @@ use Rattle.pir_schemes.specs.declared.plan.Plan.{Plan}
 use Rattle.pir_schemes.specs.Plans.{fits, shape_at}
 use Rattle.publication_log.specs.declared.changes.Publication.{Publication}
 use Rattle.publication_log.specs.Publications.{Placed, Published, changes_bytes, IsPublished}
-use Rattle.version_store.specs.Histories.{StoreState, History, Change, Edited, Appended, held_after, held_published, history_after, published}
+use Rattle.version_store.specs.Histories.{StoreState, History, StoreChange, Edited, Appended, held_after, held_published, history_after, published}
 
 -- a publication that was read of a log is this one
 pub record IsPublicationOf (publication : Publication) (p : Published) : Type 0 where
@@ -20,13 +20,18 @@ abbrev pub record_changed : List (List ℕ) → Placed → List (List ℕ)
 record_changed records c = if nat_lt c.place (length records) then slice_set records c.place c.bytes else records ++ c.bytes ∷ []
 
 -- the records after changes, one after another
-abbrev pub records_after : List (List ℕ) → List Placed → List (List ℕ)
-records_after records [] = records
-records_after records (c ∷ cs) = records_after (record_changed records c) cs
+abbrev pub records_replayed : List (List ℕ) → List Placed → List (List ℕ)
+records_replayed records [] = records
+records_replayed records (c ∷ cs) = records_replayed (record_changed records c) cs
 
 -- how many records there are after a change
 abbrev pub count_after : ℕ → Placed → ℕ
 count_after count c = if nat_lt c.place count then count else count + 1
+
+-- how many records there are after changes, one after another
+abbrev pub count_after_all : ℕ → List Placed → ℕ
+count_after_all count [] = count
+count_after_all count (c ∷ cs) = count_after_all (count_after count c) cs
 
 -- whether so many records have this place, or it is the next one and a layout has room for it
 abbrev pub has_place : Plan → ℕ → ℕ → Bool
@@ -46,11 +51,11 @@ is_replayable plan version count p = (p.version == (version + 1)) && (nat_lt 0 (
 -- ---- stores
 
 -- the edit of one of so many records, or the append, that a change is
-abbrev pub edit_or_append : ℕ → Placed → Change
+abbrev pub edit_or_append : ℕ → Placed → StoreChange
 edit_or_append count c = if nat_lt c.place count then Edited c.place c.bytes else Appended c.bytes
 
 -- the edits and appends that changes of so many records are
-abbrev pub edits_and_appends : ℕ → List Placed → List Change
+abbrev pub edits_and_appends : ℕ → List Placed → List StoreChange
 edits_and_appends count [] = []
 edits_and_appends count (c ∷ cs) = edit_or_append count c ∷ edits_and_appends (count_after count c) cs
 
@@ -91,10 +96,10 @@ pub record HasNoDraft (s : StoreState) : Type 0 where
 pub record IsDraftMade (s : StoreState) (cs : List Placed) : Type 0 where
   pub some : s.marked ≡ true → 0 < length cs
   pub each : are_changes_of s.edition.plan (length s.edition.records) cs ≡ true
-  pub made : records_after s.edition.records cs ≡ s.draft
+  pub made : records_replayed s.edition.records cs ≡ s.draft
 
 -- a publication of a store's draft: it follows the current version, and its changes make the draft
 -- of the current records
 pub record IsDraftOf (s : StoreState) (p : Published) : Type 0 where
   pub next : is_next_of s p ≡ true
-  pub made : records_after s.edition.records p.changes ≡ s.draft
+  pub made : records_replayed s.edition.records p.changes ≡ s.draft

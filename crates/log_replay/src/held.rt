@@ -6,7 +6,7 @@ ghost use Rattle.digit_pack.specs.Layout.{IsLayout};
 ghost use Rattle.pir_schemes.specs.Plans.{fits, shape_at};
 ghost use Rattle.snapshot_file.specs.declared.snapshot.Header.{Header};
 ghost use Rattle.version_store.specs.Openings.{IsSound, plan_held, records_for};
-ghost use Rattle.log_replay.specs.Records.{with_count, with_version};
+ghost use Rattle.log_replay.specs.Records.{with_record_count, with_version};
 
 use digit_pack::record_buffer;
 use pir_schemes::Plan;
@@ -56,7 +56,7 @@ pub trait RecordHolder: Sized + Drop {
             (shape_at (plan_held (header self.old)) ((header self.old).count + 1)) }
         ensures sound { OnOk result (IsSound (header self.new) (bytes self.new)) }
         ensures header { OnOk result
-            (header self.new ≡ with_count (header self.old) ((header self.old).count + 1)) }
+            (header self.new ≡ with_record_count (header self.old) ((header self.old).count + 1)) }
         ensures records { OnOk result (records_for (header self.new) (bytes self.new) ≡
             records_for (header self.old) (bytes self.old) ++ record_bytes.now ∷ []) }
         ensures refused { OnErr result

@@ -3,7 +3,7 @@ use Rattle.std.proofs.Common.{◌≡◌, ◌<◌, ℕ, List, length, Option, Non
 use Rattle.server_core.specs.Cores.{Core, session_of}
 use Rattle.connection_table.specs.Holding.{held_by}
 use Rattle.connection_turns.specs.Runs.{OthersStay, DoesToCore, Closes}
-use Rattle.connection_table.specs.declared.connection.Connection.{Connection}
+use Rattle.connection_table.specs.declared.connection.ServedConnection.{ServedConnection}
 use Rattle.connection_table.specs.declared.connection.TurnResult.{TurnResult}
 use Rattle.connection_table.specs.Judging.{GoesOn}
 use Rattle.connection_table.specs.Places.{connection_at}
@@ -13,13 +13,13 @@ use Rattle.mio_server.proofs.Leaving.{others_stay, goes_on, settles_others, sett
 use Rattle.connection_table.proofs.Turned.{either_end}
 use Rattle.mio_server.proofs.Noted.{left_noted, back_noted, settled_noted}
 
-module _ (o : TurnResult) (place : ℕ) (c d : Connection) (places freed : List (Option Connection)) (old mid : Core) (after : List (Option Connection)) (new : Core)
+module _ (o : TurnResult) (place : ℕ) (c d : ServedConnection) (places freed : List (Option ServedConnection)) (old mid : Core) (after : List (Option ServedConnection)) (new : Core)
     (is_freed : freed ≡ set places place None)
     (puts_back : GoesOn o → PutsOrEvicts place d freed mid after new)
     (closes_it : (GoesOn o → ⊥) → (after ≡ freed) × DoesToCore mid (Closes d.id) new)
     (id : d.id ≡ c.id) (stay : OthersStay c.id old mid) where
   puts : GoesOn o → PutsOrEvicts place d (set places place None) mid after new
-  puts g = subst (λ (k : List (Option Connection)). PutsOrEvicts place d k mid after new) is_freed (puts_back g)
+  puts g = subst (λ (k : List (Option ServedConnection)). PutsOrEvicts place d k mid after new) is_freed (puts_back g)
 
   closes : (GoesOn o → ⊥) → (after ≡ set places place None) × DoesToCore mid (Closes d.id) new
   closes n = let h = closes_it n in (h.0 ∙ is_freed, h.1)
@@ -47,5 +47,5 @@ module _ (o : TurnResult) (place : ℕ) (c d : Connection) (places freed : List 
   concluded_noted next within there n is = either_end (AreNoted after new next) o
       (λ g. settled_noted place d (set places place None) mid after new next (puts g)
       (back_noted places place c d old mid next within there n stay id is))
-      (λ over. subst (λ (k : List (Option Connection)). AreNoted k new next) (sym (closes over).0)
+      (λ over. subst (λ (k : List (Option ServedConnection)). AreNoted k new next) (sym (closes over).0)
       (left_noted places place c old new next there n (closed_stay (closes over).1)))

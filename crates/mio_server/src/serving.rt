@@ -17,8 +17,8 @@ use mio::net::TcpListener;
 use mio::{Events, Interest, Poll, Token};
 use schedule::Schedule;
 use server_core::ServerCore;
-use service_status::{InputState, Log, Phase, Status, StatusFault, read_input, watch_input};
-use service_watch::{Counted, DraftLife, Entry, Event, LogFormat};
+use service_status::{EventLog, InputState, Phase, Status, StatusFault, read_input, watch_input};
+use service_watch::{Counted, DraftLife, Entry, LogFormat, ServiceEvent};
 use std::io;
 use std::net::SocketAddr;
 use std::time::{Duration, Instant};
@@ -71,7 +71,7 @@ struct Service {
     // Where a free place is looked for first.
     place_from: usize,
     schedule: Schedule,
-    log: Log,
+    log: EventLog,
     // The number of the next session: none is used twice.
     next_id: u64,
     buffer: Vec<u8>,
@@ -159,7 +159,7 @@ fn begin(
     };
     service
         .log
-        .note(rt, &service_entry(Event::Listening, Some(address)));
+        .note(rt, &service_entry(ServiceEvent::Listening, Some(address)));
     Ok(Begun {
         service,
         events,
@@ -201,7 +201,7 @@ fn print_addresses(
 // Says why a connection is closed, and counts it.
 fn note_closing(
     rt: &HostRuntime,
-    log: &mut Log,
+    log: &mut EventLog,
     counters: &mut Tallies,
     closing: Closing,
     session: Option<u64>,
@@ -252,7 +252,7 @@ fn open_service(rt: &HostRuntime, address: SocketAddr, limits: Limits) -> Result
         full: false,
         place_from: 0,
         schedule: Schedule::new(rt.alloc()),
-        log: Log::new(start, limits.quiet, limits.format),
+        log: EventLog::new(start, limits.quiet, limits.format),
         next_id: 0,
         buffer,
         start,
@@ -260,7 +260,7 @@ fn open_service(rt: &HostRuntime, address: SocketAddr, limits: Limits) -> Result
 }
 
 // What is said of the whole service.
-fn service_entry(event: Event, address: Option<SocketAddr>) -> Entry {
+fn service_entry(event: ServiceEvent, address: Option<SocketAddr>) -> Entry {
     Entry {
         event,
         session: None,
@@ -378,7 +378,8 @@ impl Service {
         let until = self.attend(rt, events, status, server)?;
         self.stop_at_end(rt)?;
         if self.is_over(rt)? {
-            self.log.note(rt, &service_entry(Event::Stopped, None));
+            self.log
+                .note(rt, &service_entry(ServiceEvent::Stopped, None));
             return Ok(None);
         }
         Ok(Some(self.wait(rt, until)?))
@@ -409,7 +410,8 @@ impl Service {
             InputState::Waits => self.input_ready = false,
             InputState::Ended => {
                 let now = self.now(rt)?;
-                self.log.note(rt, &service_entry(Event::Stopping, None));
+                self.log
+                    .note(rt, &service_entry(ServiceEvent::Stopping, None));
                 self.stop(now, grace);
             }
         }

@@ -18,7 +18,7 @@ noise_sum x e = signed_sum_below (length x) (λ j. pos (slice_index x j) *ℤ sl
 abbrev pub IsQuiet : ℕ → List ℕ → List ℤ → Type 0
 IsQuiet w x e = unsigned_abs (noise_sum x e) < delta w / 2
 
--- a row of so many digits is quiet whatever its noise is: no noise is above 27, and no digit above
--- 2 ^ w - 1
+-- so few digits of w bits that a row of them is quiet whatever its noise is: the greatest noise, 27,
+-- times the greatest digit, once for each of them, stays below half of delta
 abbrev pub IsCertain : ℕ → ℕ → Type 0
 IsCertain w terms = 27 * (2 ^ w - 1) * terms < delta w / 2

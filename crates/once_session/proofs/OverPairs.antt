@@ -10,14 +10,14 @@ use Rattle.once_session.specs.declared.stage.Stage.{Stage}
 use Rattle.once_session.specs.declared.stage.Stage.TheVariants as stage
 use Rattle.once_session.specs.declared.engine.OnceFault.{OnceFault}
 use Rattle.once_session.specs.declared.engine.OnceFault.TheVariants as fault
-use Rattle.once_session.specs.Outputs.{goes_on, WaitsForMore, Turns, Finishes, ServesOneStream, IsOutput, IsServeFault}
+use Rattle.once_session.specs.Outputs.{takes_frames, WaitsForMore, Turns, Finishes, ServesOneStream, IsOutput, IsServeFault}
 use Rattle.once_session.specs.OnceTurns.{WritesWorkReplies, Work, fresh_work, TakesWorkPiece, LeavesOpen, EndsByPiece, EndsByEnd, BreaksOffWork, EndsWorkTurns, ServesWorkOver}
 use Rattle.once_session.proofs.RunLemmas.{waits_none, waits_on, waits_served, finish_served, turn_served, turned_on, turned_off, ends_on, nothing_served}
 
 -- what is so after turns after which the work goes on
 record Going (read out : List ℕ) (work : Work) : Type 0 where
   waits : WaitsForMore stage.Fresh read work.stage (Some work.unfinished) out
-  going : goes_on work.stage ≡ true
+  going : takes_frames work.stage ≡ true
 
 same_rest : (a b : List ℕ) → Some a ≡ Some b → a ≡ b
 same_rest a b e = cc
@@ -26,7 +26,7 @@ same_rest a b e = cc
 rest_is : (read out : List ℕ) (work : Work) (w : WaitsForMore stage.Fresh read work.stage (Some work.unfinished) out) → work.unfinished ≡ w.rest
 rest_is read out work w = same_rest work.unfinished w.rest w.codec_is
 
-keeps : (read out : List ℕ) (old new : Work) (turn : CallTurn) → Going read out old → goes_on new.stage ≡ true
+keeps : (read out : List ℕ) (old new : Work) (turn : CallTurn) → Going read out old → takes_frames new.stage ≡ true
     → Turns (Ok tt) old.stage (old.unfinished ++ turn.piece) new.stage (Some new.unfinished) turn.output → Going (read ++ turn.piece) (out ++ turn.output) new
 keeps read out old new turn i going turned = record {
   waits =

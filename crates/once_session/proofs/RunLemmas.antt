@@ -15,7 +15,7 @@ use Rattle.once_session.specs.declared.engine.OnceFault.TheVariants as fault
 use Rattle.once_session.specs.declared.stage.Stage.{Stage}
 use Rattle.once_session.specs.declared.stage.Stage.TheVariants as stage
 use Rattle.once_session.specs.Courses.{replies_to, stage_after, encodings}
-use Rattle.once_session.specs.Outputs.{IsPrefixOf, goes_on, rest_reply, is_well, is_done, output_of, EndsWork, WaitsForMore, Breaks, Turns, IsOutput, IsOnceReply, IsStreamCut, LacksMemoryAfter, IsServeFault, ServesOneStream, Finishes}
+use Rattle.once_session.specs.Outputs.{IsPrefixOf, takes_frames, rest_reply, is_well, is_finished, output_of, EndsWork, WaitsForMore, Breaks, Turns, IsOutput, IsOnceReply, IsStreamCut, LacksMemoryAfter, IsServeFault, ServesOneStream, Finishes}
 use Rattle.once_session.proofs.CourseLemmas.{stage_after-append, output-append, prefix_after, prefix_taken}
 
 -- nothing was read yet
@@ -63,7 +63,7 @@ waits_on read out piece more st new codec left w t = record {
 
 -- a frame, or what can't be read, ended it
 pub ends_on : (read out piece more : List ℕ) (st new : Stage) (codec left : Option (List ℕ)) (well : Bool) (w : WaitsForMore stage.Fresh read st codec out) →
-    EndsWork st (w.rest ++ piece) new more → is_done new ≡ well →
+    EndsWork st (w.rest ++ piece) new more → is_finished new ≡ well →
     IsOutput (read ++ piece) (out ++ more) left well
 ends_on read out piece more st new codec left well w t done =
     let s : stage_after st t.frames ≡ stage_after stage.Fresh (w.frames ++ t.frames) = both_stages w.frames t.frames st w.stage_is in
@@ -71,9 +71,9 @@ ends_on read out piece more st new codec left well w t done =
       frames = w.frames ++ t.frames;
       rest = t.rest;
       begins = both_begin read piece w.frames t.frames w.rest t.rest w.reads.begins t.begins;
-      last = record { no_frame = λ going. t.no_frame (ap goes_on s ∙ going); no_more = λ going p. absurd (t.no_part (ap goes_on s ∙ going) p) };
-      out_is = both_outs w.frames t.frames st out more w.out_is w.stage_is (cond (goes_on (stage_after st t.frames)) (rest_reply t.rest) []) t.out_is
-          ∙ ap (λ x. encodings (replies_to stage.Fresh (w.frames ++ t.frames)) ++ cond (goes_on x) (rest_reply t.rest) []) s;
+      last = record { no_frame = λ going. t.no_frame (ap takes_frames s ∙ going); no_more = λ going p. absurd (t.no_part (ap takes_frames s ∙ going) p) };
+      out_is = both_outs w.frames t.frames st out more w.out_is w.stage_is (cond (takes_frames (stage_after st t.frames)) (rest_reply t.rest) []) t.out_is
+          ∙ ap (λ x. encodings (replies_to stage.Fresh (w.frames ++ t.frames)) ++ cond (takes_frames x) (rest_reply t.rest) []) s;
       well_is = sym done ∙ t.well_is ∙ ap (λ x. is_well x t.rest) s;
     }
 
@@ -98,7 +98,7 @@ pub breaks_on : (read out piece more : List ℕ) (st : Stage) (codec left : Opti
 breaks_on read out piece more st codec left w t =
     let s : stage_after st t.frames ≡ stage_after stage.Fresh (w.frames ++ t.frames) = both_stages w.frames t.frames st w.stage_is in
     let all : List ℕ = encodings (replies_to st t.frames) in
-    let tail : List ℕ = cond (goes_on (stage_after st t.frames)) (rest_reply t.rest) [] in
+    let tail : List ℕ = cond (takes_frames (stage_after st t.frames)) (rest_reply t.rest) [] in
     record {
       frames = w.frames ++ t.frames;
       rest = t.rest;
@@ -107,8 +107,8 @@ breaks_on read out piece more st codec left w t =
         | inl f ↦ inl (prefix_alone (out ++ more) (encodings (replies_to stage.Fresh (w.frames ++ t.frames)))
             (both_prefix w.frames t.frames st out more w.out_is w.stage_is [] (prefix_long more all f)))
         | inr f ↦ inr (
-          record { no_frame = λ going. f.0 (ap goes_on s ∙ going); no_more = λ going p. absurd (f.1 (ap goes_on s ∙ going) p) },
-          subst (λ x. IsPrefixOf (out ++ more) (encodings (replies_to stage.Fresh (w.frames ++ t.frames)) ++ cond (goes_on x) (rest_reply t.rest) [])) s
+          record { no_frame = λ going. f.0 (ap takes_frames s ∙ going); no_more = λ going p. absurd (f.1 (ap takes_frames s ∙ going) p) },
+          subst (λ x. IsPrefixOf (out ++ more) (encodings (replies_to stage.Fresh (w.frames ++ t.frames)) ++ cond (takes_frames x) (rest_reply t.rest) [])) s
               (both_prefix w.frames t.frames st out more w.out_is w.stage_is tail f.2),
         )
       ];
@@ -126,25 +126,25 @@ lacks_on read out piece more st codec w t =
       begins = both_begin read piece w.frames t.frames w.rest t.rest w.reads.begins t.begins;
       out_is = both_outs w.frames t.frames st out more w.out_is w.stage_is [] (t.out_is ∙ sym (append-nil (encodings (replies_to st t.frames))))
           ∙ append-nil (encodings (replies_to stage.Fresh (w.frames ++ t.frames)));
-      open_still = ap goes_on (sym s) ∙ t.open_still;
+      open_still = ap takes_frames (sym s) ∙ t.open_still;
       unfaulted = t.unfaulted;
     }
 
 -- every turn was used
-pub waits_served : (read out : List ℕ) (st : Stage) (codec : Option (List ℕ)) → WaitsForMore stage.Fresh read st codec out → goes_on st ≡ true →
+pub waits_served : (read out : List ℕ) (st : Stage) (codec : Option (List ℕ)) → WaitsForMore stage.Fresh read st codec out → takes_frames st ≡ true →
     IsOnceReply read out
 waits_served read out st codec w going = record {
   frames = w.frames;
   rest = w.rest;
   reads = w.reads;
-  open_still = ap goes_on (sym w.stage_is) ∙ going;
+  open_still = ap takes_frames (sym w.stage_is) ∙ going;
   out_is =
       w.out_is;
 }
 
 -- the stream's end is after a frame, or within one
 shut_output : (read out more : List ℕ) (st : Stage) (codec left : Option (List ℕ)) (well : Bool) (w : WaitsForMore stage.Fresh read st codec out) →
-    goes_on st ≡ true → IsAtEnd left → more ≡ rest_reply w.rest →
+    takes_frames st ≡ true → IsAtEnd left → more ≡ rest_reply w.rest →
     well ≡ is_well (stage_after stage.Fresh w.frames) w.rest → IsOutput read (out ++ more) left well
 shut_output read out more st codec left well w going end m is = record {
   frames = w.frames;
@@ -152,17 +152,17 @@ shut_output read out more st codec left well w going end m is = record {
   begins = w.reads.begins;
   last = record { no_frame = λ _ f. w.reads.partial.no_frame f; no_more = λ _ _. end };
   out_is = ap (λ (b : List ℕ). b ++ more) w.out_is ∙ ap (λ (b : List ℕ). encodings (replies_to stage.Fresh w.frames) ++ b)
-      (m ∙ ap (λ b. cond b (rest_reply w.rest) []) (sym going ∙ ap goes_on w.stage_is));
+      (m ∙ ap (λ b. cond b (rest_reply w.rest) []) (sym going ∙ ap takes_frames w.stage_is));
   well_is = is;
 }
 
-well_at_end : (st : Stage) (rest : List ℕ) → goes_on st ≡ true → rest ≡ [] → true ≡ is_well st rest
+well_at_end : (st : Stage) (rest : List ℕ) → takes_frames st ≡ true → rest ≡ [] → true ≡ is_well st rest
 well_at_end stage.Fresh rest g e = sym (ap (is_well stage.Fresh) e)
 well_at_end (stage.Loaded t) rest g e = sym (ap (is_well (stage.Loaded t)) e)
 well_at_end stage.Done rest g e = refl
 well_at_end stage.Bad rest g e = let no : false ≡ true = g in cc
 
-ill_at_end : (st : Stage) (rest : List ℕ) → goes_on st ≡ true → (rest ≡ [] → ⊥) → false ≡ is_well st rest
+ill_at_end : (st : Stage) (rest : List ℕ) → takes_frames st ≡ true → (rest ≡ [] → ⊥) → false ≡ is_well st rest
 ill_at_end stage.Fresh [] g some = absurd (some refl)
 ill_at_end stage.Fresh (b ∷ bs) g some = refl
 ill_at_end (stage.Loaded t) [] g some = absurd (some refl)
@@ -174,7 +174,7 @@ some_reply : (rest : List ℕ) → (rest ≡ [] → ⊥) → encoding (Refused 1
 some_reply [] some = absurd (some refl)
 some_reply (b ∷ bs) some = refl
 
-shut_cut : (read out more : List ℕ) (st : Stage) (codec left : Option (List ℕ)) (w : WaitsForMore stage.Fresh read st codec out) → goes_on st ≡ true →
+shut_cut : (read out more : List ℕ) (st : Stage) (codec left : Option (List ℕ)) (w : WaitsForMore stage.Fresh read st codec out) → takes_frames st ≡ true →
     IsAtEnd left → IsPrefixOf more (rest_reply w.rest) →
     IsStreamCut read (out ++ more) left
 shut_cut read out more st codec left w going end f = record {
@@ -184,20 +184,20 @@ shut_cut read out more st codec left w going end f = record {
   prefix = inr (
     record { no_frame = λ _ h. w.reads.partial.no_frame h; no_more = λ _ _. end },
     subst (λ (b : List ℕ). IsPrefixOf (b ++ more) (output_of w.frames w.rest)) (sym w.out_is)
-        (prefix_after (encodings (replies_to stage.Fresh w.frames)) more (cond (goes_on (stage_after stage.Fresh w.frames)) (rest_reply w.rest) [])
-        (subst (λ b. IsPrefixOf more (cond b (rest_reply w.rest) [])) (sym going ∙ ap goes_on w.stage_is) f)),
+        (prefix_after (encodings (replies_to stage.Fresh w.frames)) more (cond (takes_frames (stage_after stage.Fresh w.frames)) (rest_reply w.rest) [])
+        (subst (λ b. IsPrefixOf more (cond b (rest_reply w.rest) [])) (sym going ∙ ap takes_frames w.stage_is) f)),
   );
 }
 
 pub finish_served : (turns : ℕ) (answer : Result (Unit {0}) OnceFault) (read out more : List ℕ) (st : Stage) (codec left : Option (List ℕ))
-    (w : WaitsForMore stage.Fresh read st codec out) → goes_on st ≡ true → IsAtEnd left →
+    (w : WaitsForMore stage.Fresh read st codec out) → takes_frames st ≡ true → IsAtEnd left →
     Finishes answer w.rest more → ServesOneStream turns answer read (out ++ more) left
 finish_served turns (Ok done) read out more st codec left w going end f =
     shut_output read out more st codec left true w going end (f.1 ∙ sym (ap rest_reply f.0))
-    (well_at_end (stage_after stage.Fresh w.frames) w.rest (ap goes_on (sym w.stage_is) ∙ going) f.0)
+    (well_at_end (stage_after stage.Fresh w.frames) w.rest (ap takes_frames (sym w.stage_is) ∙ going) f.0)
 finish_served turns (Err fault.BadInput) read out more st codec left w going end f =
     shut_output read out more st codec left false w going end (f.1 ∙ some_reply w.rest f.0)
-    (ill_at_end (stage_after stage.Fresh w.frames) w.rest (ap goes_on (sym w.stage_is) ∙ going) f.0)
+    (ill_at_end (stage_after stage.Fresh w.frames) w.rest (ap takes_frames (sym w.stage_is) ∙ going) f.0)
 finish_served turns (Err fault.Read) read out more st codec left w going end f = absurd f
 finish_served turns (Err fault.TurnsUsedUp) read out more st codec left w going end f = absurd f
 finish_served turns (Err fault.Write) read out more st codec left w going end f = shut_cut read out more st codec left w going end f
@@ -215,11 +215,11 @@ turn_served turns e read out piece more st new codec later left w (inr is) t =
     subst (λ x. ServesOneStream turns (Err x) (read ++ piece) (out ++ more) left) (sym is) (lacks_on read out piece more st codec w halts)
 
 -- what a turn that goes on, or ends, led to
-pub turned_on : (st new : Stage) (stream more : List ℕ) (left : Option (List ℕ)) → goes_on new ≡ true → Turns (Ok tt) st stream new left more →
+pub turned_on : (st new : Stage) (stream more : List ℕ) (left : Option (List ℕ)) → takes_frames new ≡ true → Turns (Ok tt) st stream new left more →
     WaitsForMore st stream new left more
 turned_on st new stream more left going t = subst (λ b. MatchBool b (WaitsForMore st stream new left more) (EndsWork st stream new more)) going t
 
-pub turned_off : (st new : Stage) (stream more : List ℕ) (left : Option (List ℕ)) → goes_on new ≡ false → Turns (Ok tt) st stream new left more →
+pub turned_off : (st new : Stage) (stream more : List ℕ) (left : Option (List ℕ)) → takes_frames new ≡ false → Turns (Ok tt) st stream new left more →
     EndsWork st stream new more
 turned_off st new stream more left over t = subst (λ b. MatchBool b (WaitsForMore st stream new left more) (EndsWork st stream new more)) over t
 

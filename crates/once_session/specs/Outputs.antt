@@ -14,11 +14,11 @@ use Rattle.once_session.specs.declared.engine.OnceFault.TheVariants.{BadInput, R
 use Rattle.once_session.specs.Courses.{replies_to, stage_after, encodings}
 
 -- whether frames can follow
-abbrev pub goes_on : Stage → Bool
-goes_on Fresh = true
-goes_on (Loaded t) = true
-goes_on Done = false
-goes_on Bad = false
+abbrev pub takes_frames : Stage → Bool
+takes_frames Fresh = true
+takes_frames (Loaded t) = true
+takes_frames Done = false
+takes_frames Bad = false
 
 -- what bytes after the last frame are answered: a frame that is cut or can't be read is refused
 abbrev pub rest_reply : List ℕ → List ℕ
@@ -28,7 +28,7 @@ rest_reply (b ∷ bs) = encoding (Refused 1)
 -- the bytes that a stream is answered: the replies to its frames in order, and to the rest if no
 -- frame ended it before
 abbrev pub output_of : List Frame → List ℕ → List ℕ
-output_of frames rest = encodings (replies_to Fresh frames) ++ cond (goes_on (stage_after Fresh frames)) (rest_reply rest) []
+output_of frames rest = encodings (replies_to Fresh frames) ++ cond (takes_frames (stage_after Fresh frames)) (rest_reply rest) []
 
 -- whether a stream ends well: by a Bye, or between two frames
 abbrev pub is_well : Stage → List ℕ → Bool
@@ -42,8 +42,8 @@ is_well (Loaded t) (b ∷ bs) = false
 -- Nothing more comes of what was read: if no frame ended it, no frame begins the rest, and a rest
 -- that more bytes could make a frame is all that there is
 pub record IsLast (st : Stage) (rest : List ℕ) (left : Option (List ℕ)) : Type 0 where
-  pub no_frame : goes_on st ≡ true → HasFrame false rest → ⊥
-  pub no_more : goes_on st ≡ true → IsPartial false rest → IsAtEnd left
+  pub no_frame : takes_frames st ≡ true → HasFrame false rest → ⊥
+  pub no_more : takes_frames st ≡ true → IsPartial false rest → IsAtEnd left
 
 -- the whole output for what was read, and whether it ended well
 pub record IsOutput (read out : List ℕ) (left : Option (List ℕ)) (well : Bool) : Type 0 where
@@ -59,7 +59,7 @@ pub record IsOnceReply (read out : List ℕ) : Type 0 where
   pub frames : List Frame
   pub rest : List ℕ
   pub reads : Reads false read frames rest
-  pub open_still : goes_on (stage_after Fresh frames) ≡ true
+  pub open_still : takes_frames (stage_after Fresh frames) ≡ true
   pub out_is : out ≡ encodings (replies_to Fresh frames)
 
 -- a prefix of some bytes
@@ -81,7 +81,7 @@ pub record LacksMemoryAfter (old : Stage) (stream out : List ℕ) : Type 0 where
   pub rest : List ℕ
   pub begins : Begins false stream frames rest
   pub out_is : out ≡ encodings (replies_to old frames)
-  pub open_still : goes_on (stage_after old frames) ≡ true
+  pub open_still : takes_frames (stage_after old frames) ≡ true
   pub unfaulted : StopsAt false no_memory rest
 
 -- what was written for what was read in at most so many turns, by the answer
@@ -98,34 +98,34 @@ abbrev pub IsServeFault : OnceFault → Type 0
 IsServeFault e = (e ≡ Write) ⊎ (e ≡ Memory)
 
 -- a fault of the stream itself
-abbrev pub IsJudged : ReadFault → Type 0
-IsJudged TooLong = Unit {0}
-IsJudged UnknownKind = Unit {0}
-IsJudged BadPayload = Unit {0}
-IsJudged no_memory = ⊥
-IsJudged Failed = ⊥
+abbrev pub IsStreamFault : ReadFault → Type 0
+IsStreamFault TooLong = Unit {0}
+IsStreamFault UnknownKind = Unit {0}
+IsStreamFault BadPayload = Unit {0}
+IsStreamFault no_memory = ⊥
+IsStreamFault Failed = ⊥
 
 -- the reading stopped, and no fault was found: memory was refused to it
-abbrev pub IsUnjudged : Result (Unit {0}) ReadFault → Type 0
-IsUnjudged (Ok done) = ⊥
-IsUnjudged (Err fault) = IsJudged fault → ⊥
+abbrev pub IsWithoutStreamFault : Result (Unit {0}) ReadFault → Type 0
+IsWithoutStreamFault (Ok done) = ⊥
+IsWithoutStreamFault (Err fault) = IsStreamFault fault → ⊥
 
 -- whether the work is done well
-abbrev pub is_done : Stage → Bool
-is_done Fresh = false
-is_done (Loaded t) = false
-is_done Done = true
-is_done Bad = false
+abbrev pub is_finished : Stage → Bool
+is_finished Fresh = false
+is_finished (Loaded t) = false
+is_finished Done = true
+is_finished Bad = false
 
 -- a stream that ends the work, by a frame or by what can't be read
 pub record EndsWork (old : Stage) (stream : List ℕ) (new : Stage) (out : List ℕ) : Type 0 where
   pub frames : List Frame
   pub rest : List ℕ
   pub begins : Begins false stream frames rest
-  pub no_frame : goes_on (stage_after old frames) ≡ true → HasFrame false rest → ⊥
-  pub no_part : goes_on (stage_after old frames) ≡ true → IsPartial false rest → ⊥
-  pub out_is : out ≡ encodings (replies_to old frames) ++ cond (goes_on (stage_after old frames)) (rest_reply rest) []
-  pub well_is : is_done new ≡ is_well (stage_after old frames) rest
+  pub no_frame : takes_frames (stage_after old frames) ≡ true → HasFrame false rest → ⊥
+  pub no_part : takes_frames (stage_after old frames) ≡ true → IsPartial false rest → ⊥
+  pub out_is : out ≡ encodings (replies_to old frames) ++ cond (takes_frames (stage_after old frames)) (rest_reply rest) []
+  pub well_is : is_finished new ≡ is_well (stage_after old frames) rest
 
 -- a stream after which the work goes on
 pub record WaitsForMore (old : Stage) (stream : List ℕ) (new : Stage) (codec : Option (List ℕ)) (out : List ℕ) : Type 0 where
@@ -142,13 +142,13 @@ pub record Breaks (old : Stage) (stream : List ℕ) (out : List ℕ) : Type 0 wh
   pub rest : List ℕ
   pub begins : Begins false stream frames rest
   pub prefix : IsPrefixOf out (encodings (replies_to old frames))
-      ⊎ ((goes_on (stage_after old frames) ≡ true → HasFrame false rest → ⊥) × (goes_on (stage_after old frames) ≡ true → IsPartial false rest → ⊥)
-      × IsPrefixOf out (encodings (replies_to old frames) ++ cond (goes_on (stage_after old frames)) (rest_reply rest) []))
+      ⊎ ((takes_frames (stage_after old frames) ≡ true → HasFrame false rest → ⊥) × (takes_frames (stage_after old frames) ≡ true → IsPartial false rest → ⊥)
+      × IsPrefixOf out (encodings (replies_to old frames) ++ cond (takes_frames (stage_after old frames)) (rest_reply rest) []))
 
 -- what a piece does at an open stage, where `stream` is the unfinished frame before it and the
 -- piece
 abbrev pub Turns : Result (Unit {0}) OnceFault → Stage → List ℕ → Stage → Option (List ℕ) → List ℕ → Type 0
-Turns (Ok done) old stream new codec out = MatchBool (goes_on new) (WaitsForMore old stream new codec out) (EndsWork old stream new out)
+Turns (Ok done) old stream new codec out = MatchBool (takes_frames new) (WaitsForMore old stream new codec out) (EndsWork old stream new out)
 Turns (Err Memory) old stream new codec out = LacksMemoryAfter old stream out
 Turns (Err e) old stream new codec out = Breaks old stream out
 

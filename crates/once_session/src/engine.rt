@@ -7,7 +7,8 @@ ghost use Rattle.connection_io.specs.Calls.{Sends};
 ghost use Rattle.frame_codec.specs.Frames.{encoding, payload_size, payload_limit};
 ghost use Rattle.once_session.specs.Courses.{next, HasTable, FitsWorkReply, replies_to};
 ghost use Rattle.once_session.specs.Courses.{stage_after, work_reply_bytes, reply, encodings};
-ghost use Rattle.once_session.specs.Outputs.{IsServeFault, IsPrefixOf, IsJudged, goes_on, Turns};
+ghost use Rattle.once_session.specs.Outputs.{IsServeFault, IsPrefixOf, IsStreamFault, takes_frames};
+ghost use Rattle.once_session.specs.Outputs.{Turns};
 ghost use Rattle.once_session.specs.OnceTurns.{SendsBefore, WritesWorkReplies, LacksMemory};
 ghost use Rattle.once_session.specs.OnceTurns.{LacksMemoryForFrame};
 ghost use Rattle.frame_codec.specs.Streams.{Feeds};
@@ -101,7 +102,7 @@ fn answer_frame<K: Kernel, C: Connection>(
     ensures fault { IfErr result IsServeFault }
     ensures memory { IfErr result (λ e. e ≡ OnceFault.Memory →
         (connection.new ≡ connection.old) × (stage.new ≡ stage.old)
-        × (goes_on stage.old ≡ true)) }
+        × (takes_frames stage.old ≡ true)) }
 {
     let Ok(StageStep { reply, moves }) = step_of(alloc, kernel, stage, frame) else {
         return Err(OnceFault::Memory);
@@ -172,7 +173,7 @@ fn answer_frames<K: Kernel, C: Connection>(
 
 // Whether frames can follow.
 pub(crate) fn goes_on(stage: &Stage) -> bool
-    ensures { result ≡ goes_on stage.now }
+    ensures { result ≡ takes_frames stage.now }
 {
     matches!(stage, Stage::Fresh | Stage::Loaded(_))
 }
@@ -209,13 +210,13 @@ fn stop<C: Connection>(
     connection: &mut C,
 ) -> Result<(), OnceFault>
     requires { refusal.now ≡ encoding (Refused 1) }
-    ensures refused { OnOk result (IsJudged fault × (stage.new ≡ Stage.Bad)) }
+    ensures refused { OnOk result (IsStreamFault fault × (stage.new ≡ Stage.Bad)) }
     ensures all { OnOk result (Sends C.does connection.old (encoding (Refused 1)) connection.new) }
     ensures prefix { IfErr result (λ e. (n : ℕ)
         × SendsBefore C.does e connection.old (take n (encoding (Refused 1))) connection.new
-        × ((n ≡ 0) ⊎ IsJudged fault)) }
+        × ((n ≡ 0) ⊎ IsStreamFault fault)) }
     ensures fault { IfErr result IsServeFault }
-    ensures judged { IfErr result (λ e. IsJudged fault → e ≡ OnceFault.Write) }
+    ensures judged { IfErr result (λ e. IsStreamFault fault → e ≡ OnceFault.Write) }
     ensures memory { IfErr result (λ e. e ≡ OnceFault.Memory → connection.new ≡ connection.old) }
 {
     match fault {
@@ -243,7 +244,7 @@ fn serve_read<K: Kernel, C: Connection>(
 ) -> Result<(), OnceFault>
     requires refusal { refusal.now ≡ encoding (Refused 1) }
     requires table { HasTable stage.old }
-    requires open { goes_on stage.old ≡ true }
+    requires open { takes_frames stage.old ≡ true }
     ensures table { OnOk result (HasTable stage.new) }
     ensures turned { (rest piece : List ℕ) (codec : Option (List ℕ)) →
         Feeds false (Some rest) piece read frames.now codec → (out : List ℕ)
@@ -280,7 +281,7 @@ pub(crate) fn serve_chunk<K: Kernel, C: Connection>(
 ) -> Result<(), OnceFault>
     requires refusal { refusal.now ≡ encoding (Refused 1) }
     requires table { HasTable stage.old }
-    requires open { goes_on stage.old ≡ true }
+    requires open { takes_frames stage.old ≡ true }
     ensures table { OnOk result (HasTable stage.new) }
     ensures turned { (rest : List ℕ) → codec.old ≡ Some rest → (out : List ℕ)
         × WritesWorkReplies C.does result connection.old out connection.new

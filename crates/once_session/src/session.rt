@@ -6,7 +6,7 @@ ghost use Rattle.std.specs.Io.KnownBytes.{Appends, Consumes};
 ghost use Rattle.frame_codec.specs.declared.frame.Frame.TheVariants.{Refused};
 ghost use Rattle.frame_codec.specs.Frames.{encoding};
 ghost use Rattle.frame_codec.specs.Streams.{IsPartial};
-ghost use Rattle.once_session.specs.Outputs.{Finishes, ServesOneStream, is_done};
+ghost use Rattle.once_session.specs.Outputs.{Finishes, ServesOneStream, is_finished};
 ghost use Rattle.once_session.specs.OnceTurns.{WritesWorkReplies, ServesWorkOver};
 
 use crate::engine::{OnceFault, goes_on, refusal_bytes, refuse, serve_chunk};
@@ -40,8 +40,8 @@ fn finish<C: Connection>(
 
 // How the work ended, if a frame ended it.
 fn ended(stage: &Stage) -> Result<(), OnceFault>
-    ensures well { OnOk result (is_done stage.now ≡ true) }
-    ensures ill { IfErr result (λ e. (e ≡ OnceFault.BadInput) × (is_done stage.now ≡ false)) }
+    ensures well { OnOk result (is_finished stage.now ≡ true) }
+    ensures ill { IfErr result (λ e. (e ≡ OnceFault.BadInput) × (is_finished stage.now ≡ false)) }
 {
     match stage {
         Stage::Done => Ok(()),

@@ -31,7 +31,7 @@ ghost use Rattle.frame_codec.specs.Frames.{IsFrame, encoding, payload_size, payl
 ghost use Rattle.frame_codec.specs.declared.frame.Frame.TheVariants.{Load, Refused};
 ghost use Rattle.once_session.specs.declared.stage.Stage.TheVariants.{Fresh, Bad};
 ghost use Rattle.digit_pack.specs.Layout.{IsLayout};
-ghost use Rattle.once_session.specs.Outputs.{goes_on};
+ghost use Rattle.once_session.specs.Outputs.{takes_frames};
 ghost use Rattle.once_session.specs.Courses.{
   next,
   reply,
@@ -175,7 +175,7 @@ pub fn step_of<K: Kernel>(
 ) -> Result<StageStep, AllocError>
     requires { HasTable stage.now }
     ensures ok { IfOk result (λ s. WorkSteps stage.now frame.now s.reply s.moves) }
-    ensures err { OnErr result (goes_on stage.now ≡ true) }
+    ensures err { OnErr result (takes_frames stage.now ≡ true) }
 {
     match stage {
         Stage::Fresh => match frame {

@@ -2,16 +2,18 @@
 use Rattle.std.specs.Prelude.{◌≡◌, ◌⊎◌, ℕ, List, codes, Option, Some, None}
 use Rattle.clap.specs.declared.parser.matches.Found.{Found}
 use Rattle.clap.specs.Matches.{first_value}
-use Rattle.pir_client.specs.Tasks.{IsNumberGiven, IsNumberIfGiven, IsHostGiven, scheme_text}
+use Rattle.command_words.specs.Given.{IsNumberGiven, IsNumberIfGiven}
+use Rattle.hint_file.specs.Texts.{scheme_text}
+use Rattle.pir_client.specs.Tasks.{IsHostGiven}
 use Rattle.pir_client.specs.declared.choosing.SchemeChoice.{SchemeChoice}
 use Rattle.pir_client.specs.declared.choosing.SchemeChoice.TheVariants.{One, Cheaper}
 use Rattle.pir_client.specs.declared.folder_tasks.FolderTask.{FolderTask}
 use Rattle.pir_client.specs.declared.folder_tasks.FolderTask.TheVariants.{Get, State, Forget}
 
 -- the time limit that was given, or half a minute
-abbrev pub IsWithin : Found → Option ℕ → Type 0
-IsWithin found None = ⊥
-IsWithin found (Some seconds) =
+abbrev pub IsTimeLimit : Found → Option ℕ → Type 0
+IsTimeLimit found None = ⊥
+IsTimeLimit found (Some seconds) =
     IsNumberIfGiven found (codes "timeout") (Some seconds) ⊎ (IsNumberIfGiven found (codes "timeout") None × (seconds ≡ 30))
 
 -- what names a scheme, or that the cheaper one is taken, on a command line
@@ -23,7 +25,7 @@ choice_text (Cheaper times) = codes "auto"
 abbrev pub ReadsFolderGet : Found → FolderTask → Type 0
 ReadsFolderGet found (Get state server least no_older progress choice indices) =
     (first_value found (codes "state") ≡ Some state.now) × IsNumberGiven found (codes "port") server.port × IsHostGiven found server
-    × IsWithin found server.timeout
+    × IsTimeLimit found server.timeout
     × (first_value found (codes "scheme") ≡ Some (choice_text choice))
 ReadsFolderGet found (State state) = ⊥
 ReadsFolderGet found (Forget state) = ⊥

@@ -4,10 +4,10 @@ use Rattle.std.specs.Str.Parse.{IsNumeral, digits_value}
 use Rattle.clap.specs.declared.parser.matches.Found.{Found}
 use Rattle.clap.specs.Matches.{first_value, one_text}
 use Rattle.command_words.specs.declared.secrets.Secret.{Secret}
-use Rattle.command_words.specs.Secrets.{IsSecretOf, IsKey}
+use Rattle.command_words.specs.Given.{IsNumberGiven, IsNumberIfGiven, IsSecretGiven, IsFlagGiven}
+use Rattle.command_words.specs.Secrets.{IsKey}
 use Rattle.command_words.specs.Values.{bytes_in}
-use Rattle.pir_schemes.specs.declared.scheme.Scheme.{Scheme}
-use Rattle.pir_schemes.specs.declared.scheme.Scheme.TheVariants.{Simple, Double}
+use Rattle.hint_file.specs.Texts.{scheme_text}
 use Rattle.pir_client.specs.declared.server.Address.{Address}
 use Rattle.pir_client.specs.declared.command_line.Task.{Task}
 use Rattle.pir_client.specs.declared.command_line.Task.TheVariants.{Get, Put, Append, Publish, Folder, Rehearse}
@@ -32,20 +32,6 @@ TaskFits (Publish server key) = IsKey key
 TaskFits (Folder task) = Unit {0}
 TaskFits Rehearse = Unit {0}
 
--- what was given for a name is this number in decimal digits
-abbrev pub IsNumberGiven : Found → List ℕ → ℕ → Type 0
-IsNumberGiven found name n = MatchOption (first_value found name) ⊥ (λ text. IsNumeral 10 text × (digits_value 10 text ≡ n))
-
--- what was given for a name, if anything was, is this number in decimal digits
-abbrev pub IsNumberIfGiven : Found → List ℕ → Option ℕ → Type 0
-IsNumberIfGiven found name n =
-    MatchOption (first_value found name) (n ≡ None) (λ text. IsNumeral 10 text × (n ≡ Some (digits_value 10 text)))
-
--- whether a flag was given for a name
-abbrev pub IsFlagGiven : Found → List ℕ → Bool → Type 0
-IsFlagGiven found name flag =
-    (one_text found name ≡ None → flag ≡ false) × (one_text found name ≡ Some (codes "true") → flag ≡ true)
-
 -- the server at the port that was given, with the time limit that was given
 abbrev pub IsServerGiven : Found → Address → Type 0
 IsServerGiven found server =
@@ -60,15 +46,6 @@ IsHostGiven found server =
 -- what was given for a name are these bytes in hex, or the dash for none
 abbrev pub AreBytesGiven : Found → List ℕ → List ℕ → Type 0
 AreBytesGiven found name bytes = MatchOption (first_value found name) ⊥ (λ text. bytes_in text ≡ Some bytes)
-
--- what was given for a name is this secret
-abbrev pub IsSecretGiven : Found → List ℕ → Secret → Type 0
-IsSecretGiven found name secret = MatchOption (first_value found name) ⊥ (λ text. IsSecretOf text secret)
-
--- the name of a scheme on a command line
-unfoldable pub scheme_text : Scheme → List ℕ
-scheme_text Simple = codes "simple"
-scheme_text Double = codes "double"
 
 -- a retrieval, as the options and the word of `get` ask for it
 abbrev pub ReadsGet : Found → Task → Type 0

@@ -2,9 +2,11 @@
 
 ghost use Rattle.std.specs.Prelude.{◌≡◌, Some, IfOk, IfSome, codes};
 ghost use Rattle.clap.specs.Matches.{found_of, first_value};
-ghost use Rattle.pir_client.specs.Tasks.{TaskFits, IsDimension, IsTimeout, IsNumberIfGiven};
+ghost use Rattle.command_words.specs.Given.{IsNumberIfGiven};
+ghost use Rattle.hint_file.specs.Texts.{scheme_text};
+ghost use Rattle.pir_client.specs.Tasks.{TaskFits, IsDimension, IsTimeout};
 ghost use Rattle.pir_client.specs.Tasks.{IsServerGiven, IsHostGiven, ReadsGet, ReadsPut};
-ghost use Rattle.pir_client.specs.Tasks.{ReadsAppend, ReadsPublish, scheme_text};
+ghost use Rattle.pir_client.specs.Tasks.{ReadsAppend, ReadsPublish};
 
 use crate::folder_tasks::{FolderTask, folder_get_task, forget_task, state_task};
 use crate::server::Address;
@@ -131,27 +133,24 @@ const KEY: Argument = Argument::Required {
 const GET: CommandText = CommandText {
     name: "get",
     about: "Retrieves a record without telling the server which",
-    example: "Prints 'retrieved INDEX VERSION HEX', HEX being the record's bytes, or - where it \
+    example: "Prints 'retrieved INDEX VERSION HEX', HEX being the record's bytes, or - if it\n\
         has none.\n\n\
-        With --state DIR a wide store is known by its greeting; without it --wide says that the \
-        store is one. With --state DIR each run draws a seed of its own from the system's random \
-        source, and keeps none. The folder keeps public hints alone, one for\n\
-        each scheme and store, so that a second get need not fetch one; it may be copied, restored \
-        or removed at any time. With --scheme auto the hints kept and the number of records decide \
-        the scheme, and not which records\n\
-        they are. A server of a lower version\n\
-        than was seen before is warned of beside the result. With --no-older nothing is asked of \
-        it: up to three more connections are tried, since\n\
-        a balancer may lead to another server, and then it is 'fault: Older'.\n\
-        A hint's parts that have come stay there, so that a get whose connection was cut goes on \
-        with the next one.\n\n\
-        With --seed and --number it is you who must never use a number twice with one seed, not \
-        even after a get that failed: two such retrievals can\n\
-        tell the server what they ask.\n\n\
-        Secrets of fewer than 1024 words hide INDEX less: the server chooses their number. \
-        --least-dimension 1024 ends a get\n\
-        with 'fault: BadWelcome' if they are fewer, before INDEX is asked for; without it a \
-        warning is printed, and with --state fewer than 1024 are refused.\n\n\
+        With --state DIR a wide store is known by its greeting; without it --wide says that\n\
+        the store is one. With --state DIR each run draws a seed of its own from the system's\n\
+        random source, and keeps none. The folder keeps public hints alone, one for each scheme\n\
+        and store, so that a second get need not fetch one; it may be copied, restored or\n\
+        removed at any time. With --scheme auto the hints kept and the number of records decide\n\
+        the scheme, and not which records they are. A server of a lower version than was seen\n\
+        before is warned of beside the result. With --no-older nothing is asked of it: up to\n\
+        three more connections are tried, since a balancer may lead to another server, and then\n\
+        it is 'fault: Older'. A hint's parts that have come stay there, so that a get whose\n\
+        connection was cut goes on with the next one.\n\n\
+        With --seed and --number it is you who must never use a number twice with one seed, not\n\
+        even after a get that failed: two such retrievals can tell the server what they ask.\n\n\
+        Secrets of fewer than 1024 words hide INDEX less: the server chooses their number.\n\
+        --least-dimension 1024 ends a get with 'fault: BadWelcome' if they are fewer, before\n\
+        INDEX is asked for; without it a warning is printed, and with --state fewer than 1024\n\
+        are refused.\n\n\
         Example: pir_client get --state DIR --port 7000 --scheme simple 1\n\
         Example: pir_client get --port 7000 --seed \
         1111111111111111111111111111111111111111111111111111111111111111 --number 0 --scheme \

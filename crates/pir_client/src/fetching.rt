@@ -1,6 +1,6 @@
 //! A hint fetched part by part into its partial file, from the first part on that is not there.
 
-use crate::progress::Progress;
+use crate::progress::FetchProgress;
 use crate::server::Server;
 use client_commands::CommandError;
 use client_state::{Fetched, Folder, FolderFault, PartialFile};
@@ -73,7 +73,7 @@ fn fetch_rest(
     let Ok(mut buffer) = vec![in rt.alloc(); 0u8; 4 * PART_WORDS] else {
         return Err(MEMORY);
     };
-    let mut progress = Progress::new(rt, says, partial.taken(), partial.parts());
+    let mut progress = FetchProgress::new(rt, says, partial.taken(), partial.parts());
     for _ in partial.taken()..partial.parts() {
         match fetch_next(server, partial, &mut buffer)? {
             Rest::Fetched => progress.say(partial.taken()),

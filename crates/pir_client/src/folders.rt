@@ -6,7 +6,7 @@ use crate::failures::{folder_failure, retrieve_failure};
 use crate::folder_tasks::FolderTask;
 use crate::older::Older;
 use crate::server::Address;
-use crate::sessions::{RetrieveError, Session};
+use crate::sessions::{FolderSession, RetrieveError};
 use client_commands::Retrieved;
 use client_state::{Folder, FolderFault, OldFolder};
 use command_words::{Failed, Failure, printed};
@@ -37,7 +37,7 @@ pub fn done_in_folder(rt: &HostRuntime, task: FolderTask<'_>) -> Result<(), Fail
             let mut session = if no_older {
                 session_of_no_older(rt, folder, &server, seed, least, choice)?
             } else {
-                Session::begin(rt, folder, &server, seed, least, choice)?
+                FolderSession::begin(rt, folder, &server, seed, least, choice)?
             };
             if progress {
                 session.say_progress();
@@ -91,15 +91,15 @@ fn session_of_no_older<'a>(
     seed: [u8; 32],
     least: usize,
     choice: SchemeChoice,
-) -> Result<Session<'a>, Failed> {
+) -> Result<FolderSession<'a>, Failed> {
     for _ in 0..MORE_CONNECTIONS {
-        let session = Session::begin(rt, folder, address, seed, least, choice)?;
+        let session = FolderSession::begin(rt, folder, address, seed, least, choice)?;
         if session.warnings().older.is_none() {
             return Ok(session);
         }
         drop(session);
     }
-    let session = Session::begin(rt, folder, address, seed, least, choice)?;
+    let session = FolderSession::begin(rt, folder, address, seed, least, choice)?;
     match session.warnings().older {
         None => Ok(session),
         Some(older) => {
@@ -124,7 +124,7 @@ fn older_failed(rt: &HostRuntime, older: Older) -> Failed {
 // damaged part.
 fn get_records(
     rt: &HostRuntime,
-    session: &mut Session<'_>,
+    session: &mut FolderSession<'_>,
     address: &Address<'_>,
     indices: &[u32],
 ) -> Result<(), Failed> {
@@ -158,7 +158,7 @@ pub fn print_record(rt: &HostRuntime, got: &Retrieved) -> Result<(), Failed> {
 // How a retrieval failed, with its record in the cause.
 fn retrieve_failed(
     rt: &HostRuntime,
-    session: &Session<'_>,
+    session: &FolderSession<'_>,
     address: &Address<'_>,
     index: u32,
     fault: RetrieveError,

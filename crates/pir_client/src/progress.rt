@@ -7,7 +7,7 @@ const BETWEEN: u128 = 1000;
 
 /// How much of a hint has come.
 #[derive(Drop)]
-pub struct Progress<'a> {
+pub struct FetchProgress<'a> {
     rt: &'a HostRuntime,
     // When the first ask went out, if anything is said.
     began: Option<Instant>,
@@ -18,11 +18,11 @@ pub struct Progress<'a> {
     parts: usize,
 }
 
-impl<'a> Progress<'a> {
+impl<'a> FetchProgress<'a> {
     /// Of so many parts, the first ones are there.
-    pub fn new(rt: &'a HostRuntime, says: bool, first: usize, parts: usize) -> Progress<'a> {
+    pub fn new(rt: &'a HostRuntime, says: bool, first: usize, parts: usize) -> FetchProgress<'a> {
         let began = if says { Instant::now(rt).ok() } else { None };
-        Progress {
+        FetchProgress {
             rt,
             began,
             said: None,

@@ -44,7 +44,7 @@ impl From<CommandError> for RetrieveError {
 
 // The rows of one record.
 #[derive(Drop)]
-struct Rows {
+struct RecordRows {
     saved: SavedClient,
     // Whether the rows are those that were kept; else they are zeros.
     are_sound: bool,
@@ -52,7 +52,7 @@ struct Rows {
 
 /// A client with a folder, and its connection.
 #[derive(Drop)]
-pub struct Session<'a> {
+pub struct FolderSession<'a> {
     rt: &'a HostRuntime,
     folder: Folder<'a>,
     client: ClientCore<Lanes>,
@@ -66,7 +66,7 @@ pub struct Session<'a> {
     says: bool,
 }
 
-impl<'a> Session<'a> {
+impl<'a> FolderSession<'a> {
     /// Connects, asks to be let in, and judges the length of the server's secrets. Of the hint kept
     /// for this store the head is read. The seed is one that no other run has.
     pub fn begin(
@@ -76,7 +76,7 @@ impl<'a> Session<'a> {
         seed: [u8; 32],
         least: usize,
         choice: SchemeChoice,
-    ) -> Result<Session<'a>, Failed> {
+    ) -> Result<FolderSession<'a>, Failed> {
         let server = Server::connect(rt, address)?;
         let client = match let_in(rt, &server, seed, least) {
             Ok(client) => client,
@@ -90,7 +90,7 @@ impl<'a> Session<'a> {
                 return Err(Failed::from(fault));
             }
         };
-        let mut session = Session {
+        let mut session = FolderSession {
             rt,
             folder,
             client,
@@ -252,7 +252,7 @@ impl<'a> Session<'a> {
 
     // The rows of a record in the hint kept, if that is one of SimplePIR and of the version known.
     // Damaged rows are zeros.
-    fn rows_kept(&self, index: u32) -> Result<Option<Rows>, CommandError> {
+    fn rows_kept(&self, index: u32) -> Result<Option<RecordRows>, CommandError> {
         let (Some(kept), Some(now)) = (&self.kept, self.client.known()) else {
             return Ok(None);
         };
@@ -272,8 +272,12 @@ impl<'a> Session<'a> {
 
     // Asks for a record over its rows, which the client doesn't hold any more then. None if the
     // hint is of another store: then nothing was asked, and the hint is of no further use.
-    fn ask_over(&mut self, rows: Rows, index: u32) -> Result<Option<Retrieved>, RetrieveError> {
-        let Rows { saved, are_sound } = rows;
+    fn ask_over(
+        &mut self,
+        rows: RecordRows,
+        index: u32,
+    ) -> Result<Option<Retrieved>, RetrieveError> {
+        let RecordRows { saved, are_sound } = rows;
         let asked = ask_with_rows(
             self.rt.alloc(),
             &mut self.client,
@@ -468,8 +472,13 @@ fn retrieved(index: u32, event: Event) -> Retrieved
 }
 
 // The rows of a record, as a client takes them up.
-fn rows_of(client: &ClientCore<Lanes>, known: ServerInfo, hint: Hint, are_sound: bool) -> Rows {
-    Rows {
+fn rows_of(
+    client: &ClientCore<Lanes>,
+    known: ServerInfo,
+    hint: Hint,
+    are_sound: bool,
+) -> RecordRows {
+    RecordRows {
         saved: saved(client, known, hint),
         are_sound,
     }

@@ -6,7 +6,7 @@ use thiserror::Error;
 
 /// Why a server was left as it is.
 #[derive(Clone, Copy, Debug, PartialEq, Eq, Error)]
-pub enum Cause {
+pub enum PushCause {
     /// No address of it takes a connection.
     #[error("Connect: it takes no connection")]
     Connect,
@@ -43,19 +43,19 @@ pub enum Cause {
     Unverified,
 }
 
-impl Cause {
+impl PushCause {
     /// Whether the server may be well a moment later.
     pub fn may_pass(self) -> bool {
         matches!(
             self,
-            Cause::Connect | Cause::Timeout | Cause::Ended | Cause::Memory
+            PushCause::Connect | PushCause::Timeout | PushCause::Ended | PushCause::Memory
         )
     }
 }
 
-impl From<PushFault> for Cause {
+impl From<PushFault> for PushCause {
     fn from(fault: PushFault) -> Self {
-        Cause::Push(fault)
+        PushCause::Push(fault)
     }
 }
 
@@ -67,5 +67,5 @@ pub enum End {
     /// The server told what it has.
     Told(ServerInfo),
     /// The server was left as it is.
-    Left(Cause),
+    Left(PushCause),
 }

@@ -1,6 +1,6 @@
 //! The commands `push` and `status`.
 
-use crate::ends::{Cause, End};
+use crate::ends::{End, PushCause};
 use crate::rounds::{Rounds, SILENCE};
 use crate::talk::{Aim, Round};
 use crate::watching::watch;

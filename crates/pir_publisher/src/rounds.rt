@@ -1,6 +1,6 @@
 //! Rounds, in each of which servers have their part side by side.
 
-use crate::ends::{Cause, End};
+use crate::ends::{End, PushCause};
 use crate::pushing::add;
 use crate::talk::{Round, Talk};
 use client_core::ClientCore;
@@ -150,7 +150,7 @@ impl Rounds {
     ) -> Result<(), AllocError> {
         for at in 0..peers.len() {
             let (talk, end) = match self.begin(rt, round, &peers[at], at) {
-                Ok(talk) => (Some(talk), End::Left(Cause::Timeout)),
+                Ok(talk) => (Some(talk), End::Left(PushCause::Timeout)),
                 Err(cause) => (None, End::Left(cause)),
             };
             add(talks, talk)?;
@@ -214,7 +214,9 @@ impl Rounds {
             return None;
         };
         let end = match talk.turn(round, now, &mut self.buffer) {
-            None if now.saturating_sub(talk.moment) >= self.silence => End::Left(Cause::Timeout),
+            None if now.saturating_sub(talk.moment) >= self.silence => End::Left(
+                PushCause::Timeout,
+            ),
             None => return None,
             Some(end) => end,
         };
@@ -247,9 +249,9 @@ impl Rounds {
         round: &Round<'a>,
         peer: &Peer<'_>,
         at: usize,
-    ) -> Result<Talk<'a>, Cause> {
+    ) -> Result<Talk<'a>, PushCause> {
         let Ok(mut stream) = connect(rt, peer) else {
-            return Err(Cause::Connect);
+            return Err(PushCause::Connect);
         };
         let _ = stream.set_nodelay(true);
         let both = Interest::READABLE | Interest::WRITABLE;
@@ -259,7 +261,7 @@ impl Rounds {
             .register(&mut stream, Token(at), both)
             .is_err()
         {
-            return Err(Cause::Connect);
+            return Err(PushCause::Connect);
         }
         let client = client_for(rt, round)?;
         Talk::begin(rt.alloc(), stream, client, round.key, self.now(rt))
@@ -275,16 +277,16 @@ fn confirmed(round: &Round<'_>, told: End) -> End {
             if known.version == version.number() && known.count as usize == version.count() => {
             End::Pushed(known.version)
         }
-        End::Told(_) => End::Left(Cause::OtherCount),
+        End::Told(_) => End::Left(PushCause::OtherCount),
         end => end,
     }
 }
 
 // A client with a secret seed of its own, for the store of a round's folder.
-fn client_for(rt: &HostRuntime, round: &Round<'_>) -> Result<ClientCore<Lanes>, Cause> {
+fn client_for(rt: &HostRuntime, round: &Round<'_>) -> Result<ClientCore<Lanes>, PushCause> {
     let mut seed = [0u8; 32];
     if rt.fill_bytes(&mut seed).is_err() {
-        return Err(Cause::Unverified);
+        return Err(PushCause::Unverified);
     }
     let plan = round.folder.plan();
     if is_wide(plan.form) {

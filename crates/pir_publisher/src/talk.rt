@@ -1,6 +1,6 @@
 //! The connection to one server, in a round.
 
-use crate::ends::{Cause, End};
+use crate::ends::{End, PushCause};
 use crate::verifying::{Verified, Verifying};
 use client_core::{ClientCore, ServerInfo};
 use mio::net::TcpStream;
@@ -82,7 +82,7 @@ impl<'a> Round<'a> {
 
 // How far the conversation is.
 #[derive(Drop)]
-enum Stage<'a> {
+enum TalkStage<'a> {
     // The server is greeted, or pushed to.
     Pushing(Push<'a, Lanes>),
     // What was pushed is retrieved.
@@ -96,7 +96,7 @@ enum Stage<'a> {
 pub struct Talk<'a> {
     alloc: Global,
     stream: TcpStream,
-    stage: Stage<'a>,
+    stage: TalkStage<'a>,
     // How many of the log's publications the server had when it was greeted.
     had: usize,
     // What is to be sent, of which so many bytes were taken.
@@ -120,20 +120,20 @@ impl<'a> Talk<'a> {
         client: ClientCore<Lanes>,
         key: [u8; 32],
         now: u64,
-    ) -> Result<Talk<'a>, Cause> {
+    ) -> Result<Talk<'a>, PushCause> {
         let mut push = Push::new(client);
         let out = match push.greet(key) {
             Ok(out) => out,
             Err(fault) => {
                 // A call keeps the prover from taking apart here all that a client owns.
                 drop(push);
-                return Err(Cause::from(fault));
+                return Err(PushCause::from(fault));
             }
         };
         Ok(Talk {
             alloc,
             stream,
-            stage: Stage::Pushing(push),
+            stage: TalkStage::Pushing(push),
             had: 0,
             out,
             sent: 0,
@@ -176,13 +176,13 @@ impl<'a> Talk<'a> {
     }
 
     // Sends what the socket takes.
-    fn send(&mut self, now: u64) -> Result<(), Cause> {
+    fn send(&mut self, now: u64) -> Result<(), PushCause> {
         if !self.writable || self.sent >= self.out.len() {
             return Ok(());
         }
         let mut stream = &self.stream;
         match stream.write(&self.out[self.sent..]) {
-            Ok(0) => Err(Cause::Ended),
+            Ok(0) => Err(PushCause::Ended),
             Ok(count) => {
                 self.sent = self.sent.saturating_add(count);
                 self.moment = now;
@@ -193,8 +193,8 @@ impl<'a> Talk<'a> {
                 Ok(())
             }
             Err(fault) if fault.kind() == ErrorKind::Interrupted => Ok(()),
-            Err(fault) if is_refusal(fault.kind()) => Err(Cause::Connect),
-            Err(_) => Err(Cause::Ended),
+            Err(fault) if is_refusal(fault.kind()) => Err(PushCause::Connect),
+            Err(_) => Err(PushCause::Ended),
         }
     }
 
@@ -204,10 +204,10 @@ impl<'a> Talk<'a> {
         round: &Round<'a>,
         now: u64,
         buffer: &mut [u8],
-    ) -> Result<Option<End>, Cause> {
+    ) -> Result<Option<End>, PushCause> {
         let mut stream = &self.stream;
         match stream.read(buffer) {
-            Ok(0) => Err(Cause::Ended),
+            Ok(0) => Err(PushCause::Ended),
             Ok(count) => {
                 self.moment = now;
                 self.take(round, &buffer[..count])
@@ -217,31 +217,31 @@ impl<'a> Talk<'a> {
                 Ok(None)
             }
             Err(fault) if fault.kind() == ErrorKind::Interrupted => Ok(None),
-            Err(fault) if is_refusal(fault.kind()) => Err(Cause::Connect),
-            Err(_) => Err(Cause::Ended),
+            Err(fault) if is_refusal(fault.kind()) => Err(PushCause::Connect),
+            Err(_) => Err(PushCause::Ended),
         }
     }
 
     // Takes what came.
-    fn take(&mut self, round: &Round<'a>, piece: &[u8]) -> Result<Option<End>, Cause> {
+    fn take(&mut self, round: &Round<'a>, piece: &[u8]) -> Result<Option<End>, PushCause> {
         match &mut self.stage {
-            Stage::Pushing(push) => {
+            TalkStage::Pushing(push) => {
                 let step = push.feed(piece)?;
                 self.pushed(round, step)
             }
-            Stage::Verifying(verifying) => {
+            TalkStage::Verifying(verifying) => {
                 let verified = verifying.feed(piece)?;
                 self.verified(verified)
             }
-            Stage::Over => Ok(None),
+            TalkStage::Over => Ok(None),
         }
     }
 
     // Does what comes next of a push.
-    fn pushed(&mut self, round: &Round<'a>, step: PushStep) -> Result<Option<End>, Cause> {
+    fn pushed(&mut self, round: &Round<'a>, step: PushStep) -> Result<Option<End>, PushCause> {
         let step = match step {
             PushStep::Greeted(known) if round.aim == Aim::Ask => {
-                self.go_to(Stage::Over);
+                self.go_to(TalkStage::Over);
                 return Ok(Some(End::Told(known)));
             }
             PushStep::Greeted(known) => self.begin_push(round, &known)?,
@@ -253,20 +253,20 @@ impl<'a> Talk<'a> {
                 self.give(&bytes)?;
                 Ok(None)
             }
-            PushStep::Greeted(_) => Err(Cause::Push(PushFault::NotDone)),
+            PushStep::Greeted(_) => Err(PushCause::Push(PushFault::NotDone)),
             PushStep::Pushed(version) => self.end_push(round, version),
         }
     }
 
     // Begins with what a server lacks, if the log has it.
-    fn begin_push(&mut self, round: &Round<'a>, known: &ServerInfo) -> Result<PushStep, Cause> {
-        let Stage::Pushing(push) = &mut self.stage else {
-            return Err(Cause::Push(PushFault::NotDone));
+    fn begin_push(&mut self, round: &Round<'a>, known: &ServerInfo) -> Result<PushStep, PushCause> {
+        let TalkStage::Pushing(push) = &mut self.stage else {
+            return Err(PushCause::Push(PushFault::NotDone));
         };
         match round.lack(known) {
-            Lack::OtherStore => Err(Cause::OtherStore),
-            Lack::Ahead => Err(Cause::Ahead(known.version)),
-            Lack::BeforeLog => Err(Cause::BeforeLog(known.version)),
+            Lack::OtherStore => Err(PushCause::OtherStore),
+            Lack::Ahead => Err(PushCause::Ahead(known.version)),
+            Lack::BeforeLog => Err(PushCause::BeforeLog(known.version)),
             Lack::After(count) => {
                 self.had = count;
                 Ok(push.begin(round.publications_after(count))?)
@@ -275,9 +275,9 @@ impl<'a> Talk<'a> {
     }
 
     // The server is at a version. What was pushed is verified, if that is wanted.
-    fn end_push(&mut self, round: &Round<'a>, version: u64) -> Result<Option<End>, Cause> {
-        let stage = mem::replace(&mut self.stage, Stage::Over);
-        let Stage::Pushing(push) = stage else {
+    fn end_push(&mut self, round: &Round<'a>, version: u64) -> Result<Option<End>, PushCause> {
+        let stage = mem::replace(&mut self.stage, TalkStage::Over);
+        let TalkStage::Pushing(push) = stage else {
             return Ok(Some(End::Pushed(version)));
         };
         if round.aim != Aim::PushAndVerify {
@@ -289,7 +289,7 @@ impl<'a> Talk<'a> {
         match Verifying::begin(self.alloc, client, pushed, version)? {
             None => Ok(Some(End::Pushed(version))),
             Some((verifying, bytes)) => {
-                self.go_to(Stage::Verifying(verifying));
+                self.go_to(TalkStage::Verifying(verifying));
                 self.give(&bytes)?;
                 Ok(None)
             }
@@ -297,33 +297,33 @@ impl<'a> Talk<'a> {
     }
 
     // Does what comes next of verifying.
-    fn verified(&mut self, verified: Verified) -> Result<Option<End>, Cause> {
+    fn verified(&mut self, verified: Verified) -> Result<Option<End>, PushCause> {
         match verified {
             Verified::Sends(bytes) => {
                 self.give(&bytes)?;
                 Ok(None)
             }
             Verified::All(version) => {
-                self.go_to(Stage::Over);
+                self.go_to(TalkStage::Over);
                 Ok(Some(End::Pushed(version)))
             }
         }
     }
 
     // The conversation is at another stage.
-    fn go_to(&mut self, stage: Stage<'a>) {
+    fn go_to(&mut self, stage: TalkStage<'a>) {
         self.stage = stage;
     }
 
     // Bytes are to be sent after those that are.
-    fn give(&mut self, bytes: &[u8]) -> Result<(), Cause> {
+    fn give(&mut self, bytes: &[u8]) -> Result<(), PushCause> {
         if self.sent >= self.out.len() {
             self.out.clear();
             self.sent = 0;
         }
         match self.out.extend_from_slice(bytes) {
             Ok(()) => Ok(()),
-            Err(AllocError) => Err(Cause::Memory),
+            Err(AllocError) => Err(PushCause::Memory),
         }
     }
 }

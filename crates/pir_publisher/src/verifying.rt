@@ -1,6 +1,6 @@
 //! What was pushed, retrieved of a server and compared.
 
-use crate::ends::Cause;
+use crate::ends::PushCause;
 use client_core::{ClientCore, Event};
 use pir_schemes::Scheme;
 use publication_log::Publications;
@@ -38,16 +38,16 @@ impl Verifying {
         client: ClientCore<Lanes>,
         pushed: Publications<'_>,
         version: u64,
-    ) -> Result<Option<(Verifying, Vec<u8>)>, Cause> {
+    ) -> Result<Option<(Verifying, Vec<u8>)>, PushCause> {
         let Ok(left) = merged_of(alloc, pushed) else {
-            return Err(Cause::Memory);
+            return Err(PushCause::Memory);
         };
         if left.is_empty() {
             return Ok(None);
         }
         let mut client = client;
         let Ok(bytes) = client.sync(Scheme::Simple) else {
-            return Err(Cause::Unverified);
+            return Err(PushCause::Unverified);
         };
         let verifying = Verifying {
             client,
@@ -63,10 +63,10 @@ impl Verifying {
     ///
     /// `Differs` if a record is another one than the folder's, `Unverified` if one could not be
     /// retrieved.
-    pub fn feed(&mut self, piece: &[u8]) -> Result<Verified, Cause> {
+    pub fn feed(&mut self, piece: &[u8]) -> Result<Verified, PushCause> {
         let fed = self.client.feed(piece);
         if fed.fault.is_some() {
-            return Err(Cause::Unverified);
+            return Err(PushCause::Unverified);
         }
         match fed.events.first() {
             None => Ok(Verified::Sends(fed.out)),
@@ -74,35 +74,35 @@ impl Verifying {
             Some(Event::Stale(version)) if *version == self.version => self.sync(),
             Some(Event::Synced(_, version)) if *version == self.version => self.ask_next(),
             Some(Event::Retrieved { index, bytes, .. }) => self.compare(*index, bytes.as_slice()),
-            Some(_) => Err(Cause::Unverified),
+            Some(_) => Err(PushCause::Unverified),
         }
     }
 
     // Asks for the hint of the version that the client knows by now.
-    fn sync(&mut self) -> Result<Verified, Cause> {
+    fn sync(&mut self) -> Result<Verified, PushCause> {
         match self.client.sync(Scheme::Simple) {
             Ok(bytes) => Ok(Verified::Sends(bytes)),
-            Err(_) => Err(Cause::Unverified),
+            Err(_) => Err(PushCause::Unverified),
         }
     }
 
     // Compares a record that was retrieved, and asks for the next one.
-    fn compare(&mut self, place: u32, bytes: &[u8]) -> Result<Verified, Cause> {
+    fn compare(&mut self, place: u32, bytes: &[u8]) -> Result<Verified, PushCause> {
         match self.left.remove(&place) {
             Some(wanted) if wanted.as_slice() == bytes => self.ask_next(),
-            _ => Err(Cause::Differs(place)),
+            _ => Err(PushCause::Differs(place)),
         }
     }
 
     // Asks for the next record, if there is one left.
-    fn ask_next(&mut self) -> Result<Verified, Cause> {
+    fn ask_next(&mut self) -> Result<Verified, PushCause> {
         let Some((place, _)) = self.left.first_key_value() else {
             return Ok(Verified::All(self.version));
         };
         let place = *place;
         match self.client.ask(place) {
             Ok(bytes) => Ok(Verified::Sends(bytes)),
-            Err(_) => Err(Cause::Unverified),
+            Err(_) => Err(PushCause::Unverified),
         }
     }
 }

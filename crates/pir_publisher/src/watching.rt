@@ -24,7 +24,7 @@ const SHORT_SILENCE: u64 = 2_000;
 
 // What is known of a server that is kept at the folder's version.
 #[derive(Clone, Copy)]
-struct Watched {
+struct WatchedServer {
     // When it is tried next, in milliseconds since the start.
     due: u64,
     // How long it is left alone the next time that it is away.
@@ -33,7 +33,7 @@ struct Watched {
     said: Option<End>,
 }
 
-impl Watched {
+impl WatchedServer {
     // Whether it was well the last time that it was tried, or was not tried yet.
     fn is_well(&self) -> bool {
         !matches!(self.said, Some(End::Left(_)))
@@ -106,8 +106,8 @@ fn is_old(rt: &HostRuntime, folder: &FolderVersion) -> bool {
 }
 
 // So many servers, all due at once.
-fn watched_all(alloc: Global, count: usize) -> Result<Vec<Watched>, AllocError> {
-    let new = Watched {
+fn watched_all(alloc: Global, count: usize) -> Result<Vec<WatchedServer>, AllocError> {
+    let new = WatchedServer {
         due: 0,
         rest: FIRST_REST,
         said: None,
@@ -120,7 +120,7 @@ fn watched_all(alloc: Global, count: usize) -> Result<Vec<Watched>, AllocError> 
 }
 
 // There is a new version: each server that is well lacks it.
-fn all_well_due(all: &mut [Watched]) {
+fn all_well_due(all: &mut [WatchedServer]) {
     for at in 0..all.len() {
         if all[at].is_well() {
             all[at].due = 0;
@@ -135,7 +135,7 @@ fn try_due(
     rounds: &mut Rounds,
     round: &Round<'_>,
     to: &[Peer<'_>],
-    all: &mut [Watched],
+    all: &mut [WatchedServer],
     well: bool,
 ) -> Result<(), Failed> {
     let now = rounds.now(rt);

@@ -18,7 +18,7 @@ use Rattle.client_core.specs.declared.state.Hint.{Hint}
 use Rattle.client_core.specs.declared.state.Call.{Call}
 use Rattle.client_core.specs.declared.state.Call.TheVariants.{Idle, Hello, Sync, Delta, Changes, Ask, Edit, Append, Publish}
 use Rattle.client_core.specs.States.{is_wide_client, is_idle, is_ready, known_version, known_count, scheme_held, simple_version, delta_base}
-use Rattle.client_core.specs.Calls.{call_since, frame_since, refusal, sync_begun, sync_frame, state_after_call}
+use Rattle.client_core.specs.Calls.{call_since, frame_since, call_refusal, sync_begun, sync_frame, state_after_call}
 use Rattle.client_core.specs.Calls.{Hello as hello_call, Sync as sync_call, Ask as ask_call}
 use Rattle.client_core.specs.Replies.{reaction_to_reply}
 use Rattle.client_core.specs.Feeding.{takes_all, fault_of}
@@ -137,7 +137,7 @@ module _ (x : Setting) (h : History) (seed : List ℕ) (l : Link) (g : GoodHisto
   nothing_waits : l.client.call ≡ Idle → (l.up.frames ≡ []) × (l.down.frames ≡ [])
   nothing_waits e = idle_phase x h l.standing seed l.client l.client.call l.up.frames l.down.frames e i.phase
 
-  pub called_hello : refusal (hello_call reader_key) l.client ≡ None → LinkInvariant x h seed (link_called (hello_call reader_key) l)
+  pub called_hello : call_refusal (hello_call reader_key) l.client ≡ None → LinkInvariant x h seed (link_called (hello_call reader_key) l)
   called_hello e =
       let a = else_none l.client.failed _ _ e in
       let b = else_none (is_some l.client.known) _ _ a.1 in
@@ -187,14 +187,14 @@ module _ (x : Setting) (h : History) (seed : List ℕ) (l : Link) (g : GoodHisto
             (flight x h l.standing seed c (call_since (is_wide_client l.client) since) l.up.frames l.down.frames (nothing_waits idle)));
       }
 
-  pub called_sync : (scheme : Scheme) → refusal (sync_call scheme) l.client ≡ None → LinkInvariant x h seed (link_called (sync_call scheme) l)
+  pub called_sync : (scheme : Scheme) → call_refusal (sync_call scheme) l.client ≡ None → LinkInvariant x h seed (link_called (sync_call scheme) l)
   called_sync scheme e =
       let a = else_none l.client.failed _ _ e in
       let b = then_none (is_some l.client.known) _ _ a.1 in
       let d = then_none (is_idle l.client.call) _ _ b.1 in
       sync_begins (delta_base scheme l.client.hint) scheme refl b.0 (idle_is l.client.call d.0)
 
-  pub called_ask : (j : ℕ) → refusal (ask_call j) l.client ≡ None → LinkInvariant x h seed (link_called (ask_call j) l)
+  pub called_ask : (j : ℕ) → call_refusal (ask_call j) l.client ≡ None → LinkInvariant x h seed (link_called (ask_call j) l)
   called_ask j e =
       let a = else_none l.client.failed _ _ e in
       let b = then_none (is_ready l.client.known l.client.hint) _ _ a.1 in

@@ -11,7 +11,7 @@ use Rattle.frame_codec.specs.Streams.{Feeds, IsFrameOf}
 use Rattle.version_store.specs.Histories.{History, StoreState, StandsFor}
 use Rattle.server_core.specs.declared.standing.Standing.{Standing}
 use Rattle.server_core.specs.Serving.{Setting, setting_of, ServesAll, is_closed}
-use Rattle.server_core.specs.Sessions.{Session, Fed, ServesPiece, AfterReading}
+use Rattle.server_core.specs.Sessions.{Session, FeedsStore, ServesPiece, AfterReading}
 use Rattle.client_core.specs.declared.state.ClientState.{ClientState}
 use Rattle.client_core.specs.declared.state.ClientFault.{ClientFault}
 use Rattle.client_core.specs.declared.state.ClientFault.TheVariants.{Memory}
@@ -171,7 +171,7 @@ module _ (x : Setting) (seeds : List (List ℕ)) (k : ℕ) (h : History) (l : Li
       rw i.standing_is (served_link x seeds k h (seed_of seeds k) l.standing l.client good short l.client.call l.up.frames fs more l.down.frames s inv.unclosed
       inv.seed_is inv.profile_is inv.known inv.hint inv.call inv.phase).unclosed
 
-  at_ok : (f : Fed x h session (prefix most e.up) (Ok tt) store after [] replies) (frames reported more : List Frame) (middle : Standing) →
+  at_ok : (f : FeedsStore x h session (prefix most e.up) (Ok tt) store after [] replies) (frames reported more : List Frame) (middle : Standing) →
       Feeds (is_wide_setting x) session.unfinished (prefix most e.up) (Ok tt) frames after.unfinished
       → IsTurn x k h session.standing frames f.history middle reported → (after.standing ≡ middle) × (more ≡ []) → f.replies ≡ reported ++ more
       → e2.client ≡ e.client → e2.up ≡ rest most e.up → e2.down ≡ e.down ++ replies → EndServed x k h l most store e2 after
@@ -200,7 +200,7 @@ module _ (x : Setting) (seeds : List (List ℕ)) (k : ℕ) (h : History) (l : Li
         };
       }
 
-  pub served_end : Fed x h session (prefix most e.up) (Ok tt) store after [] replies → e2.client ≡ e.client → e2.up ≡ rest most e.up →
+  pub served_end : FeedsStore x h session (prefix most e.up) (Ok tt) store after [] replies → e2.client ≡ e.client → e2.up ≡ rest most e.up →
       e2.down ≡ e.down ++ replies → EndServed x k h l most store e2 after
   served_end f client up down =
       let p : ServesPiece x h session (prefix most e.up) f.history after f.replies = rw unclosed at f.course in

@@ -19,18 +19,18 @@ use Rattle.client_core.specs.declared.state.Event.TheVariants.{Welcomed, Synced,
 use Rattle.client_core.specs.declared.state.Reaction.{Reaction}
 use Rattle.client_core.specs.declared.state.Reaction.TheVariants.{Asks, Reports, Fails}
 use Rattle.client_core.specs.States.{scheme_held}
-use Rattle.client_core.specs.Calls.{ClientCall, refusal}
+use Rattle.client_core.specs.Calls.{ClientCall, call_refusal}
 use Rattle.client_core.specs.Calls.{Hello as hello_call, Sync as sync_call, Ask as ask_call}
 use Rattle.client_core.specs.Feeding.{fault_of}
 use Rattle.client_core.specs.Replies.{event_read, reaction_to_reply}
 use Rattle.pir_world.specs.declared.steps.Step.{Step}
 use Rattle.pir_world.specs.declared.steps.Step.TheVariants.{Edit, Append, Publish, Hello, Sync, Ask, ToServer, ToClient}
 use Rattle.pir_world.specs.declared.steps.Outcome.TheVariants.{Published, Reported}
-use Rattle.pir_world.specs.Runs.{State, Link, Turn, Entry, Called, Sent, Served, Ended, Plain, serves, arrived, beyond, reports, reacts, state_after, call_at, called_at, served_at, edit_after, publish_after, Steps, Run, reader_key, opening, setting_in, append_after}
+use Rattle.pir_world.specs.Runs.{State, Link, Turn, Entry, Called, Sent, Served, Ended, Plain, serves, arrived, beyond, reports, reacts, state_after, call_at, called_at, served_at, edit_after, publish_after, StepsTo, RunsTo, reader_key, opening, setting_in, append_after}
 use Rattle.pir_world.specs.Versions.{seed_of}
 use Rattle.pir_world.specs.Headlines.{IsRight, IsRightEvent}
 use Rattle.pir_world.specs.Invariants.{LinkInvariant, EachAfter, WorldInvariant}
-use Rattle.pir_world.specs.Freshness.{NamesUpTo, ReportedUpTo, IsServedFresh, IsFresh, AnswersAreFresh, EveryLogIsFresh}
+use Rattle.pir_world.specs.Freshness.{NamesUpTo, ReportedUpTo, IsServedFresh, IsFreshIn, AnswersAreFresh, EveryLogIsFresh}
 use Rattle.pir_world.proofs.Receipts.{reported_by, reported_by_course, receipt_at}
 use Rattle.pir_world.proofs.Wires.{IsFew, split_few}
 use Rattle.pir_world.proofs.Calls.{few_frames}
@@ -56,7 +56,7 @@ event_up_to h (Refused code) p = tt
 
 module _ (x : Setting) (seeds : List (List ℕ)) (h : History) where
   entry_up_to : (e : Entry) → IsRight x seeds h e → ReportedUpTo (current_version h) e
-  entry_up_to (Called k want refusal) p = tt
+  entry_up_to (Called k want call_refusal) p = tt
   entry_up_to (Sent k f) p = tt
   entry_up_to (Served k f now reply) p = tt
   entry_up_to (Ended k r reply event) (inl a) = rw a.event_is (record_up_to r.index r.version (current_version h) _ a.version_is.0)
@@ -80,10 +80,10 @@ few_arrive x h seed l i most =
 
 -- of at most one frame
 one_fresh : (x : Setting) (short : Bool) (k : ℕ) (h : History) (st : Standing) (log : List Entry) (fs : List Frame) → IsFew fs →
-    AllByRecursion (ReportedUpTo (current_version h)) log → AllByRecursion (IsFresh h log) (serves x short k h st fs).log
+    AllByRecursion (ReportedUpTo (current_version h)) log → AllByRecursion (IsFreshIn h log) (serves x short k h st fs).log
 one_fresh x short k h st log fs (inl e) reported = rw e tt
 one_fresh x short k h st log fs (inr p) reported =
-    rw p.1 (cond_both (is_closed st) _ _ (λ (t : Turn). AllByRecursion (IsFresh h log) t.log) (λ c. tt) (λ c. ((refl, reported), tt)))
+    rw p.1 (cond_both (is_closed st) _ _ (λ (t : Turn). AllByRecursion (IsFreshIn h log) t.log) (λ c. tt) (λ c. ((refl, reported), tt)))
 
 pub fresh : RetrievalGivesTheRecord → AnswersAreFresh
 fresh law h records seeds steps s o run short k most l at =
@@ -137,7 +137,7 @@ module _ (x : Setting) (seeds : List (List ℕ)) (s : State) (inv : WorldInvaria
 
   called_served : (w : ClientCall) (k : ℕ) (o : Option Link) → EachAfter IsServedFresh [] (called_at s w k o).log
   called_served w k None = so_far
-  called_served w k (Some l) = call_served k w l (refusal w l.client)
+  called_served w k (Some l) = call_served k w l (call_refusal w l.client)
 
   delivered : (short : Bool) (k most : ℕ) (o : Option Link) → slice_get s.links k ≡ o → EachAfter IsServedFresh [] (served_at x short s k most o).log
   delivered short k most None at = so_far
@@ -181,11 +181,11 @@ module _ (x : Setting) (seeds : List (List ℕ)) (s : State) (inv : WorldInvaria
   after_served short (ToClient k most) =
       subst (λ (t : State). EachAfter IsServedFresh [] t.log) (sym (receipt_at s k most (slice_get s.links k))) (reported k most (slice_get s.links k))
 
-  step_served : (step : Step) (t : State) → Steps x s step t → EachAfter IsServedFresh [] t.log
+  step_served : (step : Step) (t : State) → StepsTo x s step t → EachAfter IsServedFresh [] t.log
   step_served step t (f, inl e) = rw e (after_served false step)
   step_served step t (f, inr e) = rw e (after_served true step)
 
-run_served : RetrievalGivesTheRecord → (x : Setting) (seeds : List (List ℕ)) (s : State) (steps : List Step) (t : State) → Run x s steps t → WorldInvariant x seeds s →
+run_served : RetrievalGivesTheRecord → (x : Setting) (seeds : List (List ℕ)) (s : State) (steps : List Step) (t : State) → RunsTo x s steps t → WorldInvariant x seeds s →
     EachAfter IsServedFresh [] s.log → EachAfter IsServedFresh [] t.log
 run_served law x seeds s [] t e inv so_far = rw e so_far
 run_served law x seeds s (step ∷ steps) t r inv so_far =

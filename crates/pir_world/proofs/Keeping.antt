@@ -8,14 +8,14 @@ use Rattle.pir_schemes.specs.Laws.{RetrievalGivesTheRecord}
 use Rattle.version_store.specs.Histories.{History, current_version, after_edit, published, after_append}
 use Rattle.server_core.specs.Serving.{Setting}
 use Rattle.client_core.specs.declared.state.CallFault.{CallFault}
-use Rattle.client_core.specs.Calls.{ClientCall, refusal, call_frame}
+use Rattle.client_core.specs.Calls.{ClientCall, call_refusal, call_frame}
 use Rattle.client_core.specs.Calls.{Hello as hello_call, Sync as sync_call, Ask as ask_call}
 use Rattle.frame_codec.proofs.Runs.{all_append}
 use Rattle.pir_world.specs.declared.steps.Step.{Step}
 use Rattle.pir_world.specs.declared.steps.Step.TheVariants.{Edit, Append, Publish, Hello, Sync, Ask, ToServer, ToClient}
 use Rattle.pir_world.specs.declared.steps.Outcome.{Outcome}
 use Rattle.pir_world.specs.declared.steps.Outcome.TheVariants.{Edited, EditRefused, Appended, AppendRefused, Published, PublishRefused}
-use Rattle.pir_world.specs.Runs.{State, Link, Entry, Called, Sent, Plain, state_after, called_at, served_at, call_at, with_link, with_history, edit_after, append_after, publish_after, arrived, reader_key, FitsStep, Steps, Run}
+use Rattle.pir_world.specs.Runs.{State, Link, Entry, Called, Sent, Plain, state_after, called_at, served_at, call_at, with_link, with_history, edit_after, append_after, publish_after, arrived, reader_key, HasBytes, StepsTo, RunsTo}
 use Rattle.pir_world.specs.Earlier.{IsAside, HasEarlier}
 use Rattle.pir_world.specs.Versions.{seed_of}
 use Rattle.pir_world.specs.Headlines.{IsRight}
@@ -71,8 +71,8 @@ module _ (x : Setting) (seeds : List (List ℕ)) (s : State) (inv : WorldInvaria
       let m = link_called w l in
       LinkInvariant x s.history (seed_of seeds k) m × Logged x seeds s.history k m s.log (Called k w None ∷ Sent k (call_frame w l.client) ∷ [])
 
-  call_inv : (k : ℕ) (w : ClientCall) (l : Link) (f : Option CallFault) → slice_get s.links k ≡ Some l → refusal w l.client ≡ f
-      → (refusal w l.client ≡ None → Accepted k w l) → WorldInvariant x seeds (call_at s k w l f)
+  call_inv : (k : ℕ) (w : ClientCall) (l : Link) (f : Option CallFault) → slice_get s.links k ≡ Some l → call_refusal w l.client ≡ f
+      → (call_refusal w l.client ≡ None → Accepted k w l) → WorldInvariant x seeds (call_at s k w l f)
   call_inv k w l (Some fault) at e called =
       at_one k l l s.history (Called k w (Some fault) ∷ []) at refl (inv.links k l at) (tt, tt)
       (record { kept = log_aside x s.history (seed_of seeds k) k l s.log (Called k w (Some fault) ∷ []) (inv.logs k l at) (tt, tt); earlier = (tt, tt) })
@@ -80,10 +80,10 @@ module _ (x : Setting) (seeds : List (List ℕ)) (s : State) (inv : WorldInvaria
   call_inv k w l None at e called = let c = called e in at_one k l (link_called w l) s.history _ at refl c.0 (tt, (tt, tt)) c.1 (λ j ne. (ne, (ne, tt)))
 
   called_inv : (w : ClientCall) (k : ℕ) (o : Option Link) → slice_get s.links k ≡ o
-      → ((l : Link) → LinkInvariant x s.history (seed_of seeds k) l → LogInvariant x s.history (seed_of seeds k) k l s.log → refusal w l.client ≡ None → Accepted k w l) →
+      → ((l : Link) → LinkInvariant x s.history (seed_of seeds k) l → LogInvariant x s.history (seed_of seeds k) k l s.log → call_refusal w l.client ≡ None → Accepted k w l) →
       WorldInvariant x seeds (called_at s w k o)
   called_inv w k None at called = inv
-  called_inv w k (Some l) at called = call_inv k w l (refusal w l.client) at refl (called l (inv.links k l at) (inv.logs k l at))
+  called_inv w k (Some l) at called = call_inv k w l (call_refusal w l.client) at refl (called l (inv.links k l at) (inv.logs k l at))
 
   served_at_inv : (short : Bool) (k most : ℕ) (o : Option Link) → slice_get s.links k ≡ o → WorldInvariant x seeds (served_at x short s k most o)
   served_at_inv short k most None at = inv
@@ -132,7 +132,7 @@ module _ (x : Setting) (seeds : List (List ℕ)) (s : State) (inv : WorldInvaria
       new_version : (h : History) → IsRight x seeds (published h) (Plain (Published (current_version h + 1)))
       new_version h = let e : current_version (published h) ≡ current_version h + 1 = omega arith in (h.draft, let n = newest (published h) in rw (← e) n)
 
-  pub after_inv : RetrievalGivesTheRecord → (short : Bool) (step : Step) → FitsStep step → WorldInvariant x seeds (state_after x short s step)
+  pub after_inv : RetrievalGivesTheRecord → (short : Bool) (step : Step) → HasBytes step → WorldInvariant x seeds (state_after x short s step)
   after_inv law short (Edit i bytes) small = edit_inv i bytes small
   after_inv law short (Append bytes) small = append_inv bytes small
   after_inv law short Publish small = publish_inv
@@ -149,21 +149,21 @@ module _ (x : Setting) (seeds : List (List ℕ)) (s : State) (inv : WorldInvaria
   after_inv law short (ToClient k most) small =
       subst (λ (t : State). WorldInvariant x seeds t) (sym (receipt_at s k most (slice_get s.links k))) (reported_at_inv law k most (slice_get s.links k) refl)
 
-pub step_inv : RetrievalGivesTheRecord → (x : Setting) (seeds : List (List ℕ)) (s : State) (step : Step) (t : State) → Steps x s step t → WorldInvariant x seeds s →
+pub step_inv : RetrievalGivesTheRecord → (x : Setting) (seeds : List (List ℕ)) (s : State) (step : Step) (t : State) → StepsTo x s step t → WorldInvariant x seeds s →
     WorldInvariant x seeds t
 step_inv law x seeds s step t (f, inl e) inv = rw e (after_inv x seeds s inv law false step f)
 step_inv law x seeds s step t (f, inr e) inv = rw e (after_inv x seeds s inv law true step f)
 
-pub run_inv : RetrievalGivesTheRecord → (x : Setting) (seeds : List (List ℕ)) (s : State) (steps : List Step) (t : State) → Run x s steps t → WorldInvariant x seeds s →
+pub run_inv : RetrievalGivesTheRecord → (x : Setting) (seeds : List (List ℕ)) (s : State) (steps : List Step) (t : State) → RunsTo x s steps t → WorldInvariant x seeds s →
     WorldInvariant x seeds t
 run_inv law x seeds s [] t e inv = rw e inv
 run_inv law x seeds s (step ∷ steps) t r inv = run_inv law x seeds r.0 steps t r.2 (step_inv law x seeds s step r.0 r.1 inv)
 
-pub run_more : (x : Setting) (s : State) (steps : List Step) (t : State) (step : Step) (u : State) → Run x s steps t → Steps x t step u →
-    Run x s (steps ++ step ∷ []) u
-run_more x s [] t step u e one = (u, subst (λ (a : State). Steps x a step u) e one, refl)
+pub run_more : (x : Setting) (s : State) (steps : List Step) (t : State) (step : Step) (u : State) → RunsTo x s steps t → StepsTo x t step u →
+    RunsTo x s (steps ++ step ∷ []) u
+run_more x s [] t step u e one = (u, subst (λ (a : State). StepsTo x a step u) e one, refl)
 run_more x s (y ∷ ys) t step u e one = (e.0, e.1, run_more x e.0 ys t step u e.2 one)
 
-pub stepped : (x : Setting) (short : Bool) (s : State) (step : Step) → FitsStep step → Steps x s step (state_after x short s step)
+pub stepped : (x : Setting) (short : Bool) (s : State) (step : Step) → HasBytes step → StepsTo x s step (state_after x short s step)
 stepped x false s step f = (f, inl refl)
 stepped x true s step f = (f, inr refl)

@@ -26,7 +26,7 @@ use Rattle.pir_world.specs.declared.steps.Outcome.TheVariants.{Published, Report
 use Rattle.pir_world.specs.Runs.{Link, Retrieval, Entry, Served, Ended, Plain}
 use Rattle.pir_world.specs.Versions.{HasVersion, IsVersion, HintIs, seed_of}
 use Rattle.pir_world.specs.Headlines.{IsRightEnd, IsRightEvent, IsRight}
-use Rattle.pir_world.specs.Invariants.{AreRecords, GoodHistory, IsKnownOf, KnownIs, CallIs, IsReplyOf, IsReply, InFlight, Phase, LinkInvariant}
+use Rattle.pir_world.specs.Invariants.{AreRecordsOf, GoodHistory, IsKnownOf, KnownIs, CallIs, IsReplyOf, IsReply, InFlight, Phase, LinkInvariant}
 use Rattle.std.proofs.Math.Seq.{get_or-append_seam}
 use Rattle.digit_pack.proofs.Layouts.{layout_means}
 
@@ -87,8 +87,8 @@ record_set p (r ∷ rs) zero (suc j) bytes new old = old
 record_set p (r ∷ rs) (suc i) zero bytes new old = old
 record_set p (r ∷ rs) (suc i) (suc j) bytes new old = record_set p rs i j bytes new old
 
-edited_records : (p : Plan) (records : List (List ℕ)) (i : ℕ) (bytes : List ℕ) → IsRecordOf p bytes → AreRecords p records →
-    AreRecords p (slice_set records i bytes)
+edited_records : (p : Plan) (records : List (List ℕ)) (i : ℕ) (bytes : List ℕ) → IsRecordOf p bytes → AreRecordsOf p records →
+    AreRecordsOf p (slice_set records i bytes)
 edited_records p records i bytes fits r =
     let n = length-set records i bytes in
     record {
@@ -106,7 +106,7 @@ good_edited x h i bytes fits g = record {
 }
 
 appended_records : (p : Plan) (records : List (List ℕ)) (bytes : List ℕ) → IsRecordOf p bytes → is_layout (shape_at p (length records + 1)) ≡ true →
-    AreRecords p records → AreRecords p (records ++ bytes ∷ [])
+    AreRecordsOf p records → AreRecordsOf p (records ++ bytes ∷ [])
 appended_records p records bytes fits room r =
     let n : length (records ++ bytes ∷ []) ≡ length records + 1 = omega (arith, length-append records (bytes ∷ [])) in
     record {

@@ -15,8 +15,8 @@ use Rattle.version_store.specs.Histories.{current_version}
 use Rattle.pir_world.specs.Runs.{Link, opening, setting_in, fresh_link}
 use Rattle.pir_world.specs.Versions.{seed_of}
 use Rattle.pir_world.specs.Earlier.{HasEarlier}
-use Rattle.pir_world.specs.Headlines.{IsOpening, is_accepted, EveryRunIsRight}
-use Rattle.pir_world.specs.Invariants.{AreRecords, LinkInvariant, LogInvariant, WorldInvariant}
+use Rattle.pir_world.specs.Headlines.{IsOpening, is_sound, EveryRunIsRight}
+use Rattle.pir_world.specs.Invariants.{AreRecordsOf, LinkInvariant, LogInvariant, WorldInvariant}
 use Rattle.version_store.specs.Histories.{StoreState, StandsFor, opened}
 use Rattle.version_store.specs.Openings.{held_of, plan_held}
 use Rattle.version_store.proofs.Slotted.{held_is, held_slots}
@@ -44,7 +44,7 @@ link_of wide (s ∷ seeds) (suc k) l e = link_of wide seeds k l e
 abbrev held : (h : Header) (bytes : List ℕ) → List (List ℕ)
 held h bytes = records_held (plan_held h) h.count bytes
 
-opening_records : (h : Header) (bytes : List ℕ) → IsOpening h bytes → AreRecords (plan_held h) (held h bytes)
+opening_records : (h : Header) (bytes : List ℕ) → IsOpening h bytes → AreRecordsOf (plan_held h) (held h bytes)
 opening_records h bytes o =
     let n : length (held h bytes) ≡ h.count = length-map (records_in (shape_of h) bytes) (content (plan_held h)) ∙ length-list_of h.count _ in
     record {
@@ -53,7 +53,7 @@ opening_records h bytes o =
     }
 
 -- a snapshot that a store accepts passes each of its checks
-pub opening_accepted : (h : Header) (bytes : List ℕ) → IsOpening h bytes → is_accepted h bytes ≡ true
+pub opening_accepted : (h : Header) (bytes : List ℕ) → IsOpening h bytes → is_sound h bytes ≡ true
 opening_accepted h bytes o =
     let s = o.sound in
     and_from _ _ s.sizes.form (and_from _ _ (layout_accepted (shape_of h) s.sizes.layout)
@@ -72,7 +72,7 @@ opening_inv h bytes seeds o =
     record {
       history = record {
         first = o.sound.version;
-        versions = λ v records p. subst (λ (r : List (List ℕ)). AreRecords (setting_in h).plan r)
+        versions = λ v records p. subst (λ (r : List (List ℕ)). AreRecordsOf (setting_in h).plan r)
             (only_one (held h bytes) records (current_version (opening h bytes seeds).history - v)
             (sym (records_at (opening h bytes seeds).history v p.0) ∙ p.1)) all;
         draft = all;

@@ -11,7 +11,7 @@ use Rattle.version_store.specs.Histories.{History, StandsFor}
 use Rattle.server_core.specs.Cores.{Core, session_of}
 use Rattle.server_core.specs.Serving.{Setting, setting_of}
 use Rattle.server_core.specs.Serving.{is_closed}
-use Rattle.server_core.specs.Sessions.{Session, Fed}
+use Rattle.server_core.specs.Sessions.{Session, FeedsStore}
 use Rattle.client_core.specs.declared.state.ClientState.{ClientState}
 use Rattle.client_core.specs.declared.state.ClientFault.{ClientFault}
 use Rattle.client_core.specs.declared.state.ClientFault.TheVariants.{Memory}
@@ -21,7 +21,7 @@ use Rattle.client_core.specs.declared.state.Call.TheVariants as call
 use Rattle.client_core.specs.declared.state.Event.{Event}
 use Rattle.client_core.specs.declared.state.Reaction.{Reaction}
 use Rattle.client_core.specs.declared.state.Reaction.TheVariants.{Asks, Reports, Fails}
-use Rattle.client_core.specs.Calls.{ClientCall, Accepts, refusal, state_after_call, call_frame}
+use Rattle.client_core.specs.Calls.{ClientCall, Accepts, call_refusal, state_after_call, call_frame}
 use Rattle.client_core.specs.Replies.{reaction_to_reply}
 use Rattle.client_core.specs.Feeding.{takes_all, events_of, fault_of}
 use Rattle.frame_codec.specs.Frames.{IsFrame, encoding}
@@ -160,7 +160,7 @@ module _ (x : Setting) (core : Core) (ends : List Side) (os : List Outcome) (s :
   parts_served core2 seeds most inv others f =
       let m = met x core ends os s k e p at in
       let r = f s.history m.session p.store_is m.session_is in
-      let fed = subst (λ (y : Setting). Fed y s.history m.session (prefix most e.up) (Ok tt) core2.store r.0 [] r.2.replies) p.setting_is r.2.fed in
+      let fed = subst (λ (y : Setting). FeedsStore y s.history m.session (prefix most e.up) (Ok tt) core2.store r.0 [] r.2.replies) p.setting_is r.2.fed in
       let t = served_end x seeds k s.history m.link inv.history (inv.links k m.link m.link_is) e e2 m.session r.0 core2.store most r.2.replies m.end_is fed r.2.client
       r.2.up r.2.down in
       let silent_ : outcomes_of (turn_of x t.short k most s.history m.link).log ≡ [] = serves_silent x t.short k _ (arrived m.link.up most) refl in (
@@ -180,7 +180,7 @@ module _ (x : Setting) (core : Core) (ends : List Side) (os : List Outcome) (s :
 
   accepted_end : (w : ClientCall) (session : Session) (l : Link) → EndIs (is_wide_setting x) e session l → accepts_profile x.plan l.client.profile ≡ true → (bytes : List ℕ) → Accepts e.client.state w e2.client.state bytes →
       e2.client.reader ≡ e.client.reader → e2.up ≡ e.up ++ bytes → e2.down ≡ e.down
-      → (refusal w l.client ≡ None) × EndIs (is_wide_setting x) e2 session (link_called w l)
+      → (call_refusal w l.client ≡ None) × EndIs (is_wide_setting x) e2 session (link_called w l)
   accepted_end w session l i profile bytes a reader up down =
       let f : Frame = call_frame w l.client in
       let state : e2.client.state ≡ state_after_call w l.client = a.state ∙ ap (λ (y : ClientState). state_after_call w y) i.client_is in
@@ -191,7 +191,7 @@ module _ (x : Setting) (core : Core) (ends : List Side) (os : List Outcome) (s :
       let written : e2.up ≡ e.up ++ flat_map encoding (f ∷ []) =
       up ∙ ap (λ (b : List ℕ). e.up ++ b) (a.written ∙ ap (λ (y : ClientState). encoding (call_frame w y)) i.client_is
       ∙ sym (append-nil (encoding f))) in (
-        ap (λ (y : ClientState). refusal w y) (sym i.client_is) ∙ a.may,
+        ap (λ (y : ClientState). call_refusal w y) (sym i.client_is) ∙ a.may,
         record {
           client_is = state;
           standing_is = i.standing_is;
@@ -216,7 +216,7 @@ module _ (x : Setting) (core : Core) (ends : List Side) (os : List Outcome) (s :
       })
   parts_called seeds inv w (Some fault) c =
       let m = met x core ends os s k e p at in
-      let why : refusal w m.link.client ≡ Some fault = ap (λ (y : ClientState). refusal w y) (sym m.end_is.client_is) ∙ c.0 in
+      let why : call_refusal w m.link.client ≡ Some fault = ap (λ (y : ClientState). call_refusal w y) (sym m.end_is.client_is) ∙ c.0 in
       let same : EndIs (is_wide_setting x) e2 m.session m.link = subst (λ (y : Side). EndIs (is_wide_setting x) y m.session m.link) (sym c.1) m.end_is in
       rw (m.link_is, why) (record {
         setting_is = p.setting_is;

@@ -7,7 +7,7 @@ use Rattle.client_core.specs.States.{scheme_held}
 use Rattle.client_core.specs.Replies.{AfterReply, reaction_to_reply}
 use Rattle.client_core.specs.Feeding.{Course, start, course_after_reply, course_more, runs, takes_all, sends_of, fault_of}
 use Rattle.client_core.proofs.Courses.{fault_stays}
-use Rattle.pir_world.specs.Runs.{State, Link, Entry, Receipt, receives, reacts, arrived, beyond, sent, with_link, reported_at}
+use Rattle.pir_world.specs.Runs.{State, Link, Entry, Receipt, receives, reacts, arrived, beyond, sent, with_link, received_at}
 
 -- what client k reports and sends at replies, one after another, up to a fault
 abbrev pub reported_by : ℕ → ClientState → List Frame → List Entry
@@ -118,7 +118,7 @@ received k c [] = refl
 received k c (f ∷ fs) =
     received_by k c f fs (received k (reaction_to_reply c f).state fs) (fault_of (reaction_to_reply c f).reaction) refl
 
-pub receipt_at : (s : State) (k most : ℕ) (o : Option Link) → reported_at s k most o ≡ reported_by_course s k most o
+pub receipt_at : (s : State) (k most : ℕ) (o : Option Link) → received_at s k most o ≡ reported_by_course s k most o
 receipt_at s k most None = refl
 receipt_at s k most (Some l) =
     ap (λ (t : Receipt). with_link s s.history k (record l { client = t.client; up = sent l.up t.sends; down = beyond l.down most }) t.log)

@@ -7,10 +7,10 @@ use Rattle.std.proofs.lemmas.List.{map-append}
 use Rattle.version_store.specs.Histories.{StoreState, History}
 use Rattle.server_core.specs.Cores.{Core, session_of}
 use Rattle.server_core.specs.Serving.{Setting, setting_of}
-use Rattle.server_core.specs.Sessions.{Session, Fed, new_session}
+use Rattle.server_core.specs.Sessions.{Session, FeedsStore, new_session}
 use Rattle.pir_world.specs.declared.steps.Step.{Step}
 use Rattle.pir_world.specs.declared.steps.Outcome.{Outcome}
-use Rattle.pir_world.specs.Runs.{State, Steps, FitsStep, state_after}
+use Rattle.pir_world.specs.Runs.{State, StepsTo, HasBytes, state_after}
 use Rattle.pir_world.specs.Sides.{Side, Implements, ServesDelivery, fresh_side}
 use Rattle.pir_world.proofs.Keeping.{stepped}
 
@@ -21,13 +21,13 @@ when_ok (Err x) P e p = absurd cc
 
 pub serves_delivery : (most n : ℕ) (h : History) (before after : StoreState) (old new : Side) (session then_ : Session) (piece start replies : List ℕ) →
     n ≡ min most (length old.up) → piece ≡ old.up → start ≡ []
-    → Fed (setting_of before) h session (take n piece) (Ok tt) after then_ start replies → new.client ≡ old.client → new.up ≡ drop n old.up →
+    → FeedsStore (setting_of before) h session (take n piece) (Ok tt) after then_ start replies → new.client ≡ old.client → new.up ≡ drop n old.up →
     new.down ≡ old.down ++ replies → ServesDelivery most h before old session after new then_
 serves_delivery most n h before after old new session then_ piece start replies size same empty f client up down = record {
   replies = replies;
-  fed = subst (λ (b : List ℕ). Fed (setting_of before) h session b (Ok tt) after then_ [] replies) (ap (λ (m : ℕ). take m piece) size
+  fed = subst (λ (b : List ℕ). FeedsStore (setting_of before) h session b (Ok tt) after then_ [] replies) (ap (λ (m : ℕ). take m piece) size
       ∙ ap (λ (b : List ℕ). take (min most (length old.up)) b) same)
-      (subst (λ (b : List ℕ). Fed (setting_of before) h session (take n piece) (Ok tt) after then_ b replies) empty f);
+      (subst (λ (b : List ℕ). FeedsStore (setting_of before) h session (take n piece) (Ok tt) after then_ b replies) empty f);
   client = client;
   up = up ∙ ap (λ (m : ℕ). drop m old.up) size;
   down = down;
@@ -46,10 +46,10 @@ on_map (Err x) P Q f p = tt
 
 -- a step that was made
 pub made_step : (x : Setting) (short : Bool) (s : State) (given step : Step) (core : Core) (ends : List Side) (os : List Outcome) → given ≡ step →
-    FitsStep step → Implements x core ends os (state_after x short s step)
-    → (t : State) × Steps x s given t × Implements x core ends os t
+    HasBytes step → Implements x core ends os (state_after x short s step)
+    → (t : State) × StepsTo x s given t × Implements x core ends os t
 made_step x short s given step core ends os e fits p =
-    (state_after x short s step, subst (λ (y : Step). Steps x s y (state_after x short s step)) (sym e) (stepped x short s step fits), p)
+    (state_after x short s step, subst (λ (y : Step). StepsTo x s y (state_after x short s step)) (sym e) (stepped x short s step fits), p)
 
 -- one client more, and its session
 take-next : (xs : List (List ℕ)) (i : ℕ) → i < length xs → take i xs ++ slice_index_or xs i [] ∷ [] ≡ take (suc i) xs

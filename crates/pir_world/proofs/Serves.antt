@@ -14,7 +14,7 @@ use Rattle.frame_codec.specs.declared.frame.Frame.TheVariants as frame
 use Rattle.version_store.specs.Histories.{History, changes_since, current_version, delta_rows, entries_between, reaches_olds, records_of}
 use Rattle.server_core.specs.declared.standing.Standing.{Standing}
 use Rattle.server_core.specs.declared.standing.Standing.TheVariants.{Reader}
-use Rattle.server_core.specs.Serving.{Setting, Outcome, changes_asked, is_closed, is_wide_setting, most_changes, is_reader_key, has_part, hint_words, words_asked, no_delta, delta_asked}
+use Rattle.server_core.specs.Serving.{Setting, AfterFrame, changes_asked, is_closed, is_wide_setting, most_entry_bytes, is_reader_key, has_part, hint_words, words_asked, no_delta, delta_asked}
 use Rattle.server_core.proofs.Granted.{delta_granted, changes_granted}
 use Rattle.client_core.specs.declared.state.ClientState.{ClientState}
 use Rattle.client_core.specs.declared.state.ServerInfo.{ServerInfo}
@@ -41,7 +41,7 @@ abbrev pub IsServed : Setting → History → ℕ → Frame → Option Frame →
 IsServed x h now f reply = (seeds : List (List ℕ)) (k : ℕ) → IsRight x seeds h (Served k f now reply)
 
 -- what serving the outstanding call's frame leads to
-pub record Replied (x : Setting) (h : History) (seed : List ℕ) (st : Standing) (z : Scheme) (call : Call) (f : Frame) (o : Outcome) : Type 0 where
+pub record Replied (x : Setting) (h : History) (seed : List ℕ) (st : Standing) (z : Scheme) (call : Call) (f : Frame) (o : AfterFrame) : Type 0 where
   pub history_is : o.history ≡ h
   pub unclosed : is_closed o.standing ≡ false
   pub reader : st ≡ Reader → o.standing ≡ Reader
@@ -203,14 +203,14 @@ module _ (x : Setting) (h : History) (g : GoodHistory x h) (seed : List ℕ) (z 
   version_there : records_of h since ≡ Some before
   version_there = there.1
 
-  entries_are : (entries : List ℕ) → changes_since x.plan h since (most_changes x) ≡ Some entries → entries ≡ between
+  entries_are : (entries : List ℕ) → changes_since x.plan h since (most_entry_bytes x) ≡ Some entries → entries ≡ between
   unfolding changes_since between
   entries_are entries e =
-      given (reaches_olds (current_version h) (length (kept_olds x.plan h.current h.past)) since) (most_changes x) (entries_between x.plan h since) entries e
+      given (reaches_olds (current_version h) (length (kept_olds x.plan h.current h.past)) since) (most_entry_bytes x) (entries_between x.plan h since) entries e
       ∙ ap (λ (o : Option (List (List ℕ))). entries_bytes (changes_between (slots_with_blanks x.plan (length h.current) (unwrap_or o [])) (slots x.plan h.current)))
       version_there
 
-  some_changes : (entries : List ℕ) → changes_since x.plan h since (most_changes x) ≡ Some entries →
+  some_changes : (entries : List ℕ) → changes_since x.plan h since (most_entry_bytes x) ≡ Some entries →
       Replied x h seed Reader z (Changes since) (frame.ChangesAsk since) (changes_asked x h Reader since (Some entries))
   unfolding between
   some_changes entries e = record {
@@ -233,15 +233,15 @@ module _ (x : Setting) (h : History) (g : GoodHistory x h) (seed : List ℕ) (z 
     right = λ seeds k. tt;
   }
 
-  asked_changes : (o : Option (List ℕ)) → changes_since x.plan h since (most_changes x) ≡ o →
+  asked_changes : (o : Option (List ℕ)) → changes_since x.plan h since (most_entry_bytes x) ≡ o →
       Replied x h seed Reader z (Changes since) (frame.ChangesAsk since) (changes_asked x h Reader since o)
   asked_changes None e = no_changes
   asked_changes (Some entries) e = some_changes entries e
 
   replied_changes : (short : Bool) → Replied x h seed Reader z (Changes since) (frame.ChangesAsk since) (served_or short x h Reader (frame.ChangesAsk since))
-  replied_changes false = rw wide (asked_changes (changes_since x.plan h since (most_changes x)) refl)
+  replied_changes false = rw wide (asked_changes (changes_since x.plan h since (most_entry_bytes x)) refl)
   replied_changes true =
-      rw (wide, changes_granted x h Reader since (changes_since x.plan h since (most_changes x)))
+      rw (wide, changes_granted x h Reader since (changes_since x.plan h since (most_entry_bytes x)))
       (record { history_is = refl; unclosed = refl; reader = λ e. e; reply = (_, refl, inl refl); right = λ seeds k. tt })
 
 -- ---- a query

@@ -19,7 +19,7 @@ use Rattle.client_core.specs.declared.state.Call.TheVariants as call
 use Rattle.digit_pack.specs.Layout.{is_wide}
 use Rattle.client_core.specs.States.{is_wide_client, shape_known, known_version, scheme_held, delta_base}
 use Rattle.client_core.specs.Calls.{ClientCall, Hello, Sync, Ask, frame_since, sync_frame, state_after_call, call_frame, call_words}
-use Rattle.client_core.specs.Replies.{plan_given, AfterReply, reaction_to_reply, is_accepted_welcome, is_part, is_answer, is_current, reaction_to_stale, row_numbers, is_delta, moved, changed, is_changes, goes_by_parts}
+use Rattle.client_core.specs.Replies.{plan_given, AfterReply, reaction_to_reply, is_accepted_welcome, is_part, is_answer, is_current, reaction_to_stale, row_numbers, is_delta, reaction_to_delta, reaction_to_changes, is_changes, reaction_to_no_delta}
 use Rattle.client_core.specs.Kinds.{takes_welcome, takes_asked_part, takes_part, answered, takes_answer, takes_stale, takes_delta, takes_changes, takes_no_delta, takes_done, takes_refused}
 use Rattle.client_core.specs.Feeding.{sends_of}
 use Rattle.client_core.specs.Laws.{Replied as Reply, Accepted}
@@ -179,7 +179,7 @@ stale_sends (call.Ask i v n) c version count = stale_asked c.known c c v version
 stale_sends k c version count = inl refl
 
 moved_sends : (known : Option ServerInfo) (hint : Option Hint) (c : ClientState) (asked since now count : ℕ) (rows : RowList) →
-    Sends (moved known hint c asked since now count rows)
+    Sends (reaction_to_delta known hint c asked since now count rows)
 moved_sends None hint c asked since now count rows = inl refl
 moved_sends (Some k) None c asked since now count rows = inl refl
 moved_sends (Some k) (Some h) c asked since now count rows =
@@ -190,7 +190,7 @@ delta_sends (call.Delta asked) c since now count rows = moved_sends c.known c.hi
 delta_sends k c since now count rows = inl refl
 
 changed_sends : (known : Option ServerInfo) (hint : Option Hint) (c : ClientState) (asked since now count : ℕ) (entries : List ℕ) →
-    Sends (changed known hint c asked since now count entries)
+    Sends (reaction_to_changes known hint c asked since now count entries)
 changed_sends None hint c asked since now count entries = inl refl
 changed_sends (Some k) None c asked since now count entries = inl refl
 changed_sends (Some k) (Some h) c asked since now count entries = either (is_changes k asked since now count entries) _ _ (inl refl) (inl refl)
@@ -199,7 +199,7 @@ changes_sends : (k : Call) (c : ClientState) (since now count : ℕ) (entries : 
 changes_sends (call.Changes asked) c since now count entries = changed_sends c.known c.hint c asked since now count entries
 changes_sends k c since now count entries = inl refl
 
-by_parts_sends : (known : Option ServerInfo) (c : ClientState) (version count : ℕ) → Sends (goes_by_parts known c version count)
+by_parts_sends : (known : Option ServerInfo) (c : ClientState) (version count : ℕ) → Sends (reaction_to_no_delta known c version count)
 by_parts_sends None c version count = inl refl
 by_parts_sends (Some k) c version count = either (is_current k version count) _ _ (inr (Simple, version, 0, refl, refl)) (inl refl)
 

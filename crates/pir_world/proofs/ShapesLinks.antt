@@ -16,7 +16,7 @@ use Rattle.client_core.specs.declared.state.Event.{Event}
 use Rattle.client_core.specs.declared.state.Reaction.{Reaction}
 use Rattle.client_core.specs.declared.state.Reaction.TheVariants.{Asks, Reports, Fails}
 use Rattle.client_core.specs.States.{scheme_held}
-use Rattle.client_core.specs.Calls.{ClientCall, refusal}
+use Rattle.client_core.specs.Calls.{ClientCall, call_refusal}
 use Rattle.client_core.specs.Replies.{reaction_to_reply}
 use Rattle.client_core.specs.Feeding.{sends_of, takes_all, fault_of}
 use Rattle.client_core.specs.Shapes.{outline}
@@ -36,7 +36,7 @@ use Rattle.pir_world.specs.Runs.{
   called_at,
   served_at,
 }
-use Rattle.pir_world.specs.Shapes.{sights, HaveEqualShapes}
+use Rattle.pir_world.specs.Shapes.{sights, HaveEqualSights}
 use Rattle.pir_world.proofs.Receipts.{reported_by, reported_by_course}
 use Rattle.pir_world.proofs.Links.{link_called, link_served, link_reported, turn_of}
 use Rattle.pir_world.proofs.Later.{get_same, get_other}
@@ -61,7 +61,7 @@ AreBothLike _ _ = ⊥
 pub record IsStateLike (s t : State) : Type 0 where
   pub history : t.history ≡ s.history
   pub links : (k : ℕ) → AreBothLike (slice_get s.links k) (slice_get t.links k)
-  pub logs : HaveEqualShapes s.log t.log
+  pub logs : HaveEqualSights s.log t.log
 
 set_like : (xs ys : List Link) (k : ℕ) (l m l2 m2 : Link) → slice_get xs k ≡ Some l → slice_get ys k ≡ Some m
     → ((j : ℕ) → AreBothLike (slice_get xs j) (slice_get ys j)) → IsLinkLike l2 m2
@@ -91,7 +91,7 @@ state_itself s = record { history = refl; links = λ k. both_itself (slice_get s
 
 -- ---- what a client writes into the log
 
-called_equal : (k : ℕ) (v w : ClientCall) (f g : Frame) → IsFrameLike f g → HaveEqualShapes (Called k v None ∷ Sent k f ∷ []) (Called k w None ∷ Sent k g ∷ [])
+called_equal : (k : ℕ) (v w : ClientCall) (f g : Frame) → IsFrameLike f g → HaveEqualSights (Called k v None ∷ Sent k f ∷ []) (Called k w None ∷ Sent k g ∷ [])
 called_equal k v w f g e = λ j. rw (same_shape f g e) refl
 
 reports_shown : (j k : ℕ) (z : Scheme) (q : Call) (f : Frame) (e : Event) → flat_map (sights j) (reports k z q f e ∷ []) ≡ []
@@ -105,14 +105,14 @@ reacts_shown j k z q f (Reports e) = reports_shown j k z q f e
 reacts_shown j k z q f (Fails fault) = refl
 
 reacts_equal : (k : ℕ) (y z : Scheme) (q q2 : Call) (f g : Frame) (r r2 : Reaction) → sends_of r ≡ sends_of r2 →
-    HaveEqualShapes (reacts k y q f r) (reacts k z q2 g r2)
+    HaveEqualSights (reacts k y q f r) (reacts k z q2 g r2)
 reacts_equal k y z q q2 f g r r2 e j =
     reacts_shown j k y q f r ∙ ap (λ (fs : List Frame). flat_map (sights j) (map (λ (u : Frame). Sent k u) fs)) e ∙ sym (reacts_shown j k z q2 g r2)
 
 abbrev none_or : Bool → List Entry
 none_or b = cond b [] []
 
-nothing_equal : (b d : Bool) → HaveEqualShapes (none_or b) (none_or d)
+nothing_equal : (b d : Bool) → HaveEqualSights (none_or b) (none_or d)
 nothing_equal true true = λ j. refl
 nothing_equal true false = λ j. refl
 nothing_equal false true = λ j. refl
@@ -123,7 +123,7 @@ nothing_equal false false = λ j. refl
 record AreTakenLike (k : ℕ) (c d : ClientState) (fs gs : List Frame) : Type 0 where
   outlined : outline (takes_all c fs).state ≡ outline (takes_all d gs).state
   sends : (takes_all c fs).sends ≡ (takes_all d gs).sends
-  logs : HaveEqualShapes (reported_by k c fs) (reported_by k d gs)
+  logs : HaveEqualSights (reported_by k c fs) (reported_by k d gs)
 
 not_few : (f f2 : Frame) (fs : List Frame) → IsFew (f ∷ f2 ∷ fs) → ⊥
 not_few f f2 fs (inl e) = cc
@@ -156,11 +156,11 @@ few_arrive w most few = of_split (split_few w most few)
 
 -- at two links whose clients differ in indices and words alone, two calls are refused alike
 abbrev pub IsRefusedLike : ClientCall → ClientCall → Option Link → Option Link → Type 0
-IsRefusedLike v w o o2 = (l m : Link) → o ≡ Some l → o2 ≡ Some m → outline l.client ≡ outline m.client → refusal v l.client ≡ refusal w m.client
+IsRefusedLike v w o o2 = (l m : Link) → o ≡ Some l → o2 ≡ Some m → outline l.client ≡ outline m.client → call_refusal v l.client ≡ call_refusal w m.client
 
 module _ (s t : State) (a : IsStateLike s t) (k : ℕ) where
   replaced : (l m l2 m2 : Link) (h h2 : History) (es gs : List Entry)
-      → slice_get s.links k ≡ Some l → slice_get t.links k ≡ Some m → h2 ≡ h → IsLinkLike l2 m2 → HaveEqualShapes es gs
+      → slice_get s.links k ≡ Some l → slice_get t.links k ≡ Some m → h2 ≡ h → IsLinkLike l2 m2 → HaveEqualSights es gs
       → IsStateLike (with_link s h k l2 es) (with_link t h2 k m2 gs)
   replaced l m l2 m2 h h2 es gs at at2 e b logs = record {
     history = e;
@@ -188,9 +188,9 @@ module _ (s t : State) (a : IsStateLike s t) (k : ℕ) where
       → IsStateLike (called_at s v k o) (called_at t w k o2)
   called_like v w None None at at2 b r e same = a
   called_like v w (Some l) (Some m) at at2 b r e same =
-      subst (λ (f : Option CallFault). IsStateLike (call_at s k v l (refusal v l.client)) (call_at t k w m f))
+      subst (λ (f : Option CallFault). IsStateLike (call_at s k v l (call_refusal v l.client)) (call_at t k w m f))
       (same l m refl refl b.outlined)
-      (call_like v w l m (refusal v l.client) at at2 b r e)
+      (call_like v w l m (call_refusal v l.client) at at2 b r e)
   called_like v w None (Some m) at at2 b r e same = absurd b
   called_like v w (Some l) None at at2 b r e same = absurd b
 

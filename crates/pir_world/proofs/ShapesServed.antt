@@ -8,16 +8,16 @@ use Rattle.frame_codec.specs.declared.frame.Frame.{Frame}
 use Rattle.frame_codec.specs.declared.frame.Frame.TheVariants.{Query, Answer}
 use Rattle.version_store.specs.Histories.{History, current_version}
 use Rattle.server_core.specs.declared.standing.Standing.{Standing}
-use Rattle.server_core.specs.Serving.{Setting, Outcome, outcome_of_frame, takes_memory, is_closed}
+use Rattle.server_core.specs.Serving.{Setting, AfterFrame, after_frame, takes_memory, is_closed}
 use Rattle.server_core.specs.Laws.{AreAlikeReplies}
 use Rattle.server_core.proofs.Alike.{replies_hold_no_index}
 use Rattle.pir_world.specs.Runs.{Turn, Entry, Served, served_or, turn_more, turns}
-use Rattle.pir_world.specs.Shapes.{sights, HaveEqualShapes, HadMemory}
+use Rattle.pir_world.specs.Shapes.{sights, HaveEqualSights, HadMemory}
 use Rattle.pir_world.proofs.ShapesFrames.{IsFrameLike, same_frame, same_shape, AreFramesLike, like_append}
 
 -- ---- logs
 
-pub equal_append : (a b c d : List Entry) → HaveEqualShapes a b → HaveEqualShapes c d → HaveEqualShapes (a ++ c) (b ++ d)
+pub equal_append : (a b c d : List Entry) → HaveEqualSights a b → HaveEqualSights c d → HaveEqualSights (a ++ c) (b ++ d)
 equal_append a b c d p q k =
     flat_map-append (sights k) a c
     ∙ ap (λ z. z ++ flat_map (sights k) c) (p k)
@@ -43,16 +43,16 @@ reply_itself : (r : Option Frame) → IsReplyLike r r
 reply_itself None = tt
 reply_itself (Some r) = same_frame r r refl
 
-record IsOutcomeLike (o p : Outcome) : Type 0 where
+record IsOutcomeLike (o p : AfterFrame) : Type 0 where
   history : p.history ≡ o.history
   standing : p.standing ≡ o.standing
   reply : IsReplyLike o.reply p.reply
 
-like_by : (o p o2 p2 : Outcome) → o ≡ o2 → p ≡ p2 → IsOutcomeLike o2 p2 → IsOutcomeLike o p
+like_by : (o p o2 p2 : AfterFrame) → o ≡ o2 → p ≡ p2 → IsOutcomeLike o2 p2 → IsOutcomeLike o p
 like_by o p o2 p2 e f q =
-    subst (λ (y : Outcome). IsOutcomeLike y p) (sym e) (subst (λ (y : Outcome). IsOutcomeLike o2 y) (sym f) q)
+    subst (λ (y : AfterFrame). IsOutcomeLike y p) (sym e) (subst (λ (y : AfterFrame). IsOutcomeLike o2 y) (sym f) q)
 
-outcome_itself : (o : Outcome) → IsOutcomeLike o o
+outcome_itself : (o : AfterFrame) → IsOutcomeLike o o
 outcome_itself o = record { history = refl; standing = refl; reply = reply_itself o.reply }
 
 of_reply : (r q : Frame) → AreAlikeReplies r q → IsFrameLike r q
@@ -61,15 +61,15 @@ of_reply (Query scheme version words) q e = (words, e, refl)
 of_reply r q e = e
 
 outcome_like : (x : Setting) (h : History) (st : Standing) (f g : Frame) → IsFrameLike f g
-    → IsOutcomeLike (outcome_of_frame x h st f) (outcome_of_frame x h st g)
+    → IsOutcomeLike (after_frame x h st f) (after_frame x h st g)
 outcome_like x h st (Query scheme version words) g e =
     let a = replies_hold_no_index x h st scheme version words e.0 (sym e.2) in
-    like_by _ _ _ _ a.first (ap (λ (y : Frame). outcome_of_frame x h st y) e.1 ∙ a.second)
+    like_by _ _ _ _ a.first (ap (λ (y : Frame). after_frame x h st y) e.1 ∙ a.second)
     (record { history = refl; standing = refl; reply = of_reply a.reply a.reply2 a.alike })
 outcome_like x h st (Answer scheme version words) g e =
-    like_by _ _ _ _ refl (ap (λ (y : Frame). outcome_of_frame x h st y) e.1) (outcome_itself (outcome_of_frame x h st (Answer scheme version words)))
+    like_by _ _ _ _ refl (ap (λ (y : Frame). after_frame x h st y) e.1) (outcome_itself (after_frame x h st (Answer scheme version words)))
 outcome_like x h st f g e =
-    like_by _ _ _ _ refl (ap (λ (y : Frame). outcome_of_frame x h st y) e) (outcome_itself (outcome_of_frame x h st f))
+    like_by _ _ _ _ refl (ap (λ (y : Frame). after_frame x h st y) e) (outcome_itself (after_frame x h st f))
 
 -- ---- frames one after another
 
@@ -77,7 +77,7 @@ pub record IsTurnLike (t u : Turn) : Type 0 where
   pub history : u.history ≡ t.history
   pub standing : u.standing ≡ t.standing
   pub replies : AreFramesLike t.replies u.replies
-  pub log : HaveEqualShapes t.log u.log
+  pub log : HaveEqualSights t.log u.log
 
 replies_listed : (o p : Option Frame) → IsReplyLike o p → AreFramesLike (option_to_list o) (option_to_list p)
 replies_listed None None e = tt
@@ -85,7 +85,7 @@ replies_listed (Some r) (Some q) e = (e, tt)
 replies_listed None (Some q) e = absurd e
 replies_listed (Some r) None e = absurd e
 
-served_equal : (k : ℕ) (f g : Frame) (now : ℕ) (o p : Option Frame) → IsReplyLike o p → HaveEqualShapes (Served k f now o ∷ []) (Served k g now p ∷ [])
+served_equal : (k : ℕ) (f g : Frame) (now : ℕ) (o p : Option Frame) → IsReplyLike o p → HaveEqualSights (Served k f now o ∷ []) (Served k g now p ∷ [])
 served_equal k f g now None None e = λ j. refl
 served_equal k f g now (Some r) (Some q) e = λ j. rw (same_shape r q e) refl
 served_equal k f g now None (Some q) e = absurd e
@@ -93,7 +93,7 @@ served_equal k f g now (Some r) None e = absurd e
 
 module _ (x : Setting) (k : ℕ) where
   turn_like_at : (h : History) (st : Standing) (rs qs : List Frame) (log log2 : List Entry) (f g : Frame)
-      → AreFramesLike rs qs → HaveEqualShapes log log2 → IsFrameLike f g
+      → AreFramesLike rs qs → HaveEqualSights log log2 → IsFrameLike f g
       → IsTurnLike (turn_more x false k (record { history = h; standing = st; replies = rs; log = log }) f)
       (turn_more x false k (record { history = h; standing = st; replies = qs; log = log2 }) g)
   turn_like_at h st rs qs log log2 f g a b e = elim (cases_Bool (is_closed st)) [
@@ -146,7 +146,7 @@ module _ (x : Setting) (k : ℕ) where
     | inr c ↦
         let b = rw c at a in
         let e = served_same t.history t.standing f (all_last HadMemory t.log _ b).0 in
-        let turned : Outcome → Turn = λ o. record {
+        let turned : AfterFrame → Turn = λ o. record {
           history = o.history;
           standing = o.standing;
           replies = t.replies ++ option_to_list o.reply;

@@ -8,7 +8,7 @@ use Rattle.pir_schemes.specs.Laws.{RetrievalGivesTheRecord}
 use Rattle.version_store.specs.Histories.{History, current_version}
 use Rattle.server_core.specs.Serving.{Setting}
 use Rattle.client_core.specs.declared.state.CallFault.{CallFault}
-use Rattle.client_core.specs.Calls.{ClientCall, refusal}
+use Rattle.client_core.specs.Calls.{ClientCall, call_refusal}
 use Rattle.client_core.specs.Calls.{Hello as hello_call, Sync as sync_call, Ask as ask_call}
 use Rattle.pir_world.specs.declared.steps.Step.{Step}
 use Rattle.pir_world.specs.declared.steps.Step.TheVariants.{Edit, Append, Publish, Hello, Sync, Ask, ToServer, ToClient}
@@ -32,8 +32,8 @@ use Rattle.pir_world.specs.Runs.{
   beyond,
   sent,
   reader_key,
-  Steps,
-  Run,
+  StepsTo,
+  RunsTo,
   opening,
   setting_in,
 }
@@ -138,7 +138,7 @@ module _ (x : Setting) (s : State) where
 
     called_kept : (k : ℕ) (w : ClientCall) (o : Option Link) → IsHeldBefore (called_at s w k o)
     called_kept k w None all = all
-    called_kept k w (Some l) all = call_kept k w l (refusal w l.client) all
+    called_kept k w (Some l) all = call_kept k w l (call_refusal w l.client) all
 
     served_kept : (short : Bool) (k most : ℕ) (o : Option Link) → IsHeldBefore (served_at x short s k most o)
     served_kept short k most None all = all
@@ -168,7 +168,7 @@ module _ (x : Setting) (s : State) where
     step_kept short (ToServer k most) = served_kept short k most (slice_get s.links k)
     step_kept short (ToClient k most) = subst IsHeldBefore (sym (receipt_at s k most (slice_get s.links k))) (reported_kept k most (slice_get s.links k))
 
-    pub steps_kept : (step : Step) (t : State) → Steps x s step t → IsHeldBefore t
+    pub steps_kept : (step : Step) (t : State) → StepsTo x s step t → IsHeldBefore t
     steps_kept step t (fits, inl e) = subst IsHeldBefore (sym e) (step_kept false step)
     steps_kept step t (fits, inr e) = subst IsHeldBefore (sym e) (step_kept true step)
 
@@ -184,11 +184,11 @@ module _ (x : Setting) (s : State) where
   short_same (ToServer k most) all = delivery_same k most (slice_get s.links k) all
   short_same step all = refl
 
-  pub step_is : (step : Step) (t : State) → Steps x s step t → AllByRecursion HadMemory t.log → t ≡ state_after x false s step
+  pub step_is : (step : Step) (t : State) → StepsTo x s step t → AllByRecursion HadMemory t.log → t ≡ state_after x false s step
   step_is step t (fits, inl e) all = e
   step_is step t (fits, inr e) all = e ∙ short_same step (subst (λ (u : State). AllByRecursion HadMemory u.log) e all)
 
-run_kept : (P : Entry → Type 0) (x : Setting) (s : State) (steps : List Step) (t : State) → Run x s steps t → AllByRecursion P t.log → AllByRecursion P s.log
+run_kept : (P : Entry → Type 0) (x : Setting) (s : State) (steps : List Step) (t : State) → RunsTo x s steps t → AllByRecursion P t.log → AllByRecursion P s.log
 run_kept P x s [] t e all = subst (λ (u : State). AllByRecursion P u.log) e all
 run_kept P x s (step ∷ steps) t r all = steps_kept x s P step r.0 r.1 (run_kept P x r.0 steps t r.2 all)
 

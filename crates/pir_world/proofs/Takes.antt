@@ -18,7 +18,7 @@ use Rattle.pir_schemes.specs.Schemes.{scheme_byte}
 use Rattle.pir_schemes.specs.Parts.{part_len}
 use Rattle.pir_schemes.specs.declared.plan.Plan.{Plan}
 use Rattle.digit_pack.specs.Slots.{is_form}
-use Rattle.hint_changes.specs.Changes.{changes_between, moved as moved_matrix}
+use Rattle.hint_changes.specs.Changes.{changes_between, moved}
 use Rattle.hint_changes.specs.Entries.{changes_in}
 use Rattle.record_log.specs.OldRecords.{entries_bytes}
 use Rattle.version_store.specs.OldRecords.{slots_with_blanks}
@@ -43,7 +43,7 @@ use Rattle.client_core.specs.declared.state.Call.TheVariants.{Idle, Hello, Sync,
 use Rattle.client_core.specs.declared.state.ClientFault.TheVariants.{BadReply}
 use Rattle.client_core.specs.declared.state.Reaction.TheVariants.{Asks}
 use Rattle.client_core.specs.States.{is_layout, shape_known, scheme_held}
-use Rattle.client_core.specs.Replies.{AfterReply, reaction_to_reply, more_parts, is_accepted_welcome, is_part, is_answer, is_current, with_current, are_ascending, are_entries, have_slots, is_delta, is_changes, hint_with_entries, event_read, ended, faulty}
+use Rattle.client_core.specs.Replies.{AfterReply, reaction_to_reply, reaction_to_part, is_accepted_welcome, is_part, is_answer, is_current, with_current, are_ascending, are_entries, have_slots, is_delta, is_changes, hint_with_entries, event_read, ended, faulty}
 use Rattle.client_core.specs.Kinds.{takes_welcome, takes_part, takes_answer, takes_stale, takes_no_delta, takes_refused, takes_asked_part, answered, event_of}
 use Rattle.client_core.specs.declared.state.Event.TheVariants.{Synced}
 use Rattle.client_core.specs.Laws.{rows_of}
@@ -56,7 +56,7 @@ use Rattle.pir_world.specs.Runs.{Retrieval, Entry, reacts}
 use Rattle.pir_world.specs.Earlier.{hint_after}
 use Rattle.pir_world.specs.Versions.{HasVersion, HintIs, asked_words, given_words, name_of, record_read, seed_of}
 use Rattle.pir_world.specs.Headlines.{IsRight, IsAnswered}
-use Rattle.pir_world.specs.Invariants.{AreRecords, IsChangesTo, GoodHistory, IsKnownOf, KnownIs, SyncIs, DeltaIs, IsDeltaTo, CallIs, IsReply, IsFrom, Phase, welcome_frame}
+use Rattle.pir_world.specs.Invariants.{AreRecordsOf, IsChangesTo, GoodHistory, IsKnownOf, KnownIs, SyncIs, DeltaIs, IsDeltaTo, CallIs, IsReply, IsFrom, Phase, welcome_frame}
 use Rattle.pir_world.proofs.Later.{version_positive, one_version}
 
 pub one_alike : {X : Type 0} (x y : X) → ◌≡◌ {A = List X} (x ∷ []) (y ∷ []) → x ≡ y
@@ -423,7 +423,7 @@ module _ (law : RetrievalGivesTheRecord) (x : Setting) (seeds : List (List ℕ))
       abbrev newer : WordMatrix
       newer = hint_matrix Simple x.plan d.records
 
-      all_of : (records : List (List ℕ)) → AreRecords x.plan records → All (IsRecordOf x.plan) records
+      all_of : (records : List (List ℕ)) → AreRecordsOf x.plan records → All (IsRecordOf x.plan) records
       all_of records each = λ j z lt. subst (IsRecordOf x.plan) (get_or_default records j [] z lt) (each.each j lt)
 
       held_now : HintIs x h (Some a.hint)
@@ -460,7 +460,7 @@ module _ (law : RetrievalGivesTheRecord) (x : Setting) (seeds : List (List ℕ))
       hint_now =
           ap (λ (p : Plan). hint_with_entries p a.hint d.now (length d.records) entries) plan_same
           ∙ ap (λ (m : WordMatrix). record a.hint { version = d.now; matrix = m })
-          (ap (moved_matrix (shape_at x.plan (length d.records)) (first_public (shape_at x.plan (length d.records)) x.plan.dimension x.plan.seed)
+          (ap (moved (shape_at x.plan (length d.records)) (first_public (shape_at x.plan (length d.records)) x.plan.dimension x.plan.seed)
           (changes_in x.plan.record_len entries)) was_is
           ∙ between_moves x.plan d.before d.records ok newly earlier d.more)
 
@@ -530,7 +530,7 @@ module _ (law : RetrievalGivesTheRecord) (x : Setting) (seeds : List (List ℕ))
 
       more : (words : List ℕ) → words ≡ take (65536 * (p + 1)) (hint_words x s r.records)
           → ((length words == total) ≡ true) ⊎ ((length words == total) ≡ false)
-          → IsTaken x seeds k h st c (Sync s v p) (frame.HintPart (scheme_byte s) v p (hint_part x s r.records p)) (more_parts s y c v p words)
+          → IsTaken x seeds k h st c (Sync s v p) (frame.HintPart (scheme_byte s) v p (hint_part x s r.records p)) (reaction_to_part s y c v p words)
       more words all (inl t) =
           let size : length words ≡ length (hint_words x s r.records) = eqb-true _ _ t ∙ total_is in
           let same : length (take (65536 * (p + 1)) (hint_words x s r.records)) ≡ length (hint_words x s r.records) = sym (ap length all) ∙ size in
@@ -572,10 +572,10 @@ module _ (law : RetrievalGivesTheRecord) (x : Setting) (seeds : List (List ℕ))
             next = λ f first e2. sym (one_alike _ f e2);
           })
 
-      part_step : takes_part (Sync s v p) c (scheme_byte s) v p (hint_part x s r.records p) ≡ more_parts s y c v p (c.parts ++ hint_part x s r.records p)
+      part_step : takes_part (Sync s v p) c (scheme_byte s) v p (hint_part x s r.records p) ≡ reaction_to_part s y c v p (c.parts ++ hint_part x s r.records p)
       part_step =
           ap (λ (o : Option ServerInfo). takes_asked_part o s c v p (scheme_byte s) v p (hint_part x s r.records p)) at
-          ∙ ap (λ (b : Bool). cond b (more_parts s y c v p (c.parts ++ hint_part x s r.records p)) (faulty c BadReply)) part_good
+          ∙ ap (λ (b : Bool). cond b (reaction_to_part s y c v p (c.parts ++ hint_part x s r.records p)) (faulty c BadReply)) part_good
 
       part_came : IsTaken x seeds k h st c (Sync s v p) (frame.HintPart (scheme_byte s) v p (hint_part x s r.records p))
           (takes_part (Sync s v p) c (scheme_byte s) v p (hint_part x s r.records p))

@@ -7,7 +7,7 @@ use Rattle.client_core.specs.declared.state.Event.{Event}
 use Rattle.client_core.specs.declared.state.Event.TheVariants.{Welcomed, Synced, Retrieved, Unreadable, Stale, Done, Refused}
 use Rattle.pir_world.specs.declared.steps.Step.{Step}
 use Rattle.pir_world.specs.declared.steps.Outcome.TheVariants.{Published, Reported}
-use Rattle.pir_world.specs.Runs.{State, Link, Entry, Served, Ended, Plain, Run, serves, arrived, opening, setting_in}
+use Rattle.pir_world.specs.Runs.{State, Link, Entry, Served, Ended, Plain, RunsTo, serves, arrived, opening, setting_in}
 use Rattle.pir_world.specs.Earlier.{AllWithEarlier}
 use Rattle.pir_world.specs.Headlines.{IsOpening}
 
@@ -41,20 +41,20 @@ IsFreshLog log = AllWithEarlier IsServedFresh log
 
 -- a frame is served while `now` is the current version of a history, and no later version had been
 -- reported to anybody before
-abbrev pub IsFresh : History → List Entry → Entry → Type 0
-IsFresh h before (Served k f now reply) = (now ≡ current_version h) × AllByRecursion (ReportedUpTo now) before
-IsFresh h before _ = Unit {0}
+abbrev pub IsFreshIn : History → List Entry → Entry → Type 0
+IsFreshIn h before (Served k f now reply) = (now ≡ current_version h) × AllByRecursion (ReportedUpTo now) before
+IsFreshIn h before _ = Unit {0}
 
--- Every delivery to the server in every run serves frames as `IsFresh` says. An answer is of the
+-- Every delivery to the server in every run serves frames as `IsFreshIn` says. An answer is of the
 -- version that is current when its query is served, so it is never older than a version that had
 -- been reported to anybody before.
 abbrev pub AnswersAreFresh : Type 0
 AnswersAreFresh = (h : Header) (records : List ℕ) (seeds : List (List ℕ)) (steps : List Step) (s : State) → IsOpening h records →
-    Run (setting_in h) (opening h records seeds) steps s →
+    RunsTo (setting_in h) (opening h records seeds) steps s →
     (short : Bool) (k most : ℕ) (l : Link) → slice_get s.links k ≡ Some l →
-    AllByRecursion (IsFresh s.history s.log) (serves (setting_in h) short k s.history l.standing (arrived l.up most)).log
+    AllByRecursion (IsFreshIn s.history s.log) (serves (setting_in h) short k s.history l.standing (arrived l.up most)).log
 
 -- the log of every run from every snapshot that a store accepts is fresh, for all seeds
 abbrev pub EveryLogIsFresh : Type 0
 EveryLogIsFresh = (h : Header) (records : List ℕ) (seeds : List (List ℕ)) (steps : List Step) (s : State) → IsOpening h records →
-    Run (setting_in h) (opening h records seeds) steps s → IsFreshLog s.log
+    RunsTo (setting_in h) (opening h records seeds) steps s → IsFreshLog s.log

@@ -22,7 +22,7 @@ use Rattle.client_core.specs.declared.state.Event.TheVariants.{Welcomed, Synced,
 use Rattle.client_core.specs.Replies.{event_read}
 use Rattle.pir_world.specs.declared.steps.Step.{Step}
 use Rattle.pir_world.specs.declared.steps.Outcome.TheVariants.{Published, Reported, Failed}
-use Rattle.pir_world.specs.Runs.{State, Link, Retrieval, Entry, Served, Ended, Plain, Run, opening, setting_in}
+use Rattle.pir_world.specs.Runs.{State, Link, Retrieval, Entry, Served, Ended, Plain, RunsTo, opening, setting_in}
 use Rattle.pir_world.specs.Versions.{HasVersion, IsVersion, given_words, record_read, IsQuietOn, seed_of, HintIs, name_of}
 use Rattle.pir_world.specs.Earlier.{AllWithEarlier, HasEarlier, hint_named}
 
@@ -105,19 +105,19 @@ pub record IsOpening (h : Header) (records : List ℕ) : Type 0 where
 -- whether a store accepts a snapshot: there is such a form, its layout is within its limits, the
 -- dimension is 1 to 1024, the version 1 or more, there are as many bytes as its records have, and in
 -- forms of slots the bytes of each record are a slot
-abbrev pub is_accepted : Header → List ℕ → Bool
-is_accepted h records =
+abbrev pub is_sound : Header → List ℕ → Bool
+is_sound h records =
     is_form h.form h.record_len && (is_layout (shape_of h) && ((nat_le 1 h.dimension && nat_le h.dimension 1024)
     && (nat_le 1 h.version && ((length records == records_len h) && has_slots h records))))
 
 -- a run of these steps leads to this state from the opening of a snapshot, with a client for each
 -- seed; a store accepts the snapshot, and its records are bytes
 pub record IsRunFrom (h : Header) (records : List ℕ) (seeds : List (List ℕ)) (steps : List Step) (s : State) : Type 0 where
-  pub accepted : is_accepted h records ≡ true
+  pub accepted : is_sound h records ≡ true
   pub bytes : All (λ b. b < 2 ^ 8) records
-  pub run : Run (setting_in h) (opening h records seeds) steps s
+  pub run : RunsTo (setting_in h) (opening h records seeds) steps s
 
 -- what `Headline` says is so in every run from every snapshot that a store accepts, for all seeds
 abbrev pub EveryRunIsRight : Type 0
 EveryRunIsRight = (h : Header) (records : List ℕ) (seeds : List (List ℕ)) (steps : List Step) (last : State) →
-    IsOpening h records → Run (setting_in h) (opening h records seeds) steps last → Headline (setting_in h) seeds last
+    IsOpening h records → RunsTo (setting_in h) (opening h records seeds) steps last → Headline (setting_in h) seeds last

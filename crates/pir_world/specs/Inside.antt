@@ -18,5 +18,5 @@ shown w = record {
 }
 
 -- a run of its steps leads to its outcomes and, until memory was refused, to all that it is
-abbrev pub IsKept : {K : Type 0} → Inside K → Type 0
-IsKept w = (s : State) × IsRunOf (shown w) s
+abbrev pub IsKeptRun : {K : Type 0} → Inside K → Type 0
+IsKeptRun w = (s : State) × IsRunOf (shown w) s

@@ -34,15 +34,15 @@ use Rattle.pir_world.specs.Versions.{HasVersion, HintIs, given_words, name_of, s
 use Rattle.pir_world.specs.Headlines.{IsRight}
 
 -- records within the limits of a plan, each of its bytes
-pub record AreRecords (p : Plan) (records : List (List ℕ)) : Type 0 where
+pub record AreRecordsOf (p : Plan) (records : List (List ℕ)) : Type 0 where
   pub plan : IsPlan p (length records)
   pub each : (i : ℕ) → i < length records → IsRecordOf p (record_at records i)
 
 -- versions of such records, numbered from 1 or later, each with as many as the one before or more
 pub record GoodHistory (x : Setting) (h : History) : Type 0 where
   pub first : 1 ≤ h.first
-  pub versions : (v : ℕ) (records : List (List ℕ)) → HasVersion h v records → AreRecords x.plan records
-  pub draft : AreRecords x.plan h.draft
+  pub versions : (v : ℕ) (records : List (List ℕ)) → HasVersion h v records → AreRecordsOf x.plan records
+  pub draft : AreRecordsOf x.plan h.draft
   pub growing : AreGrowing h.draft (h.current ∷ h.past)
 
 -- what is known of a version is true

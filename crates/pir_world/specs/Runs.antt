@@ -17,8 +17,8 @@ use Rattle.version_store.specs.declared.store.PublishError.TheVariants as publis
 use Rattle.version_store.specs.Histories.{History, opened, current_version, after_edit, after_append, published}
 use Rattle.server_core.specs.declared.standing.Standing.{Standing}
 use Rattle.server_core.specs.declared.standing.Standing.TheVariants.{Stranger}
-use Rattle.server_core.specs.Serving.{Setting, outcome_of_frame, takes_memory, refuses, is_closed}
-use Rattle.server_core.specs.Serving.{Outcome as Reply}
+use Rattle.server_core.specs.Serving.{Setting, after_frame, takes_memory, refuses, is_closed}
+use Rattle.server_core.specs.Serving.{AfterFrame}
 use Rattle.client_core.specs.declared.state.ClientState.{ClientState}
 use Rattle.client_core.specs.declared.state.Call.{Call}
 use Rattle.client_core.specs.declared.state.Call.TheVariants as call
@@ -27,7 +27,7 @@ use Rattle.client_core.specs.declared.state.Event.{Event}
 use Rattle.client_core.specs.declared.state.Reaction.{Reaction}
 use Rattle.client_core.specs.declared.state.Reaction.TheVariants.{Asks, Reports, Fails}
 use Rattle.client_core.specs.States.{fresh_in, scheme_held}
-use Rattle.client_core.specs.Calls.{ClientCall, refusal, state_after_call, call_frame}
+use Rattle.client_core.specs.Calls.{ClientCall, call_refusal, state_after_call, call_frame}
 use Rattle.client_core.specs.Calls.{Hello as hello_call, Sync as sync_call, Ask as ask_call}
 use Rattle.client_core.specs.Replies.{reaction_to_reply}
 use Rattle.client_core.specs.Feeding.{sends_of, fault_of}
@@ -108,9 +108,9 @@ outcomes_of log = flat_map outcome_of log
 
 -- What a frame leads to. If `short` is true, the server is out of memory: a frame that it needs
 -- memory for, and that no other check refuses, is then refused for that.
-abbrev pub served_or : Bool → Setting → History → Standing → Frame → Reply
-served_or false x h st f = outcome_of_frame x h st f
-served_or true x h st f = if takes_memory x h st f then refuses refusal.Memory st h else outcome_of_frame x h st f
+abbrev pub served_or : Bool → Setting → History → Standing → Frame → AfterFrame
+served_or false x h st f = after_frame x h st f
+served_or true x h st f = if takes_memory x h st f then refuses refusal.Memory st h else after_frame x h st f
 
 -- what some frames lead to: the history and the standing after them, the replies, and what is
 -- written down
@@ -204,7 +204,7 @@ call_at s k w l None =
 -- a call at client k; nothing if there is no such client
 abbrev pub called_at : State → ClientCall → ℕ → Option Link → State
 called_at s w k None = s
-called_at s w k (Some l) = call_at s k w l (refusal w l.client)
+called_at s w k (Some l) = call_at s k w l (call_refusal w l.client)
 
 -- a delivery of client k to the server, which serves each frame at the delivery of its last byte;
 -- nothing if there is no such client
@@ -216,9 +216,9 @@ served_at x short s k most (Some l) =
 
 -- a delivery to client k, which takes each frame at the delivery of its last byte; nothing if there
 -- is no such client
-abbrev pub reported_at : State → ℕ → ℕ → Option Link → State
-reported_at s k most None = s
-reported_at s k most (Some l) =
+abbrev pub received_at : State → ℕ → ℕ → Option Link → State
+received_at s k most None = s
+received_at s k most (Some l) =
     let t = receives k l.client (arrived l.down most) in
     with_link s s.history k (record l { client = t.client; up = sent l.up t.sends; down = beyond l.down most }) t.log
 
@@ -259,23 +259,23 @@ state_after x short s (Hello k) = called_at s (hello_call reader_key) k (slice_g
 state_after x short s (Sync k scheme) = called_at s (sync_call scheme) k (slice_get s.links k)
 state_after x short s (Ask k i) = called_at s (ask_call i) k (slice_get s.links k)
 state_after x short s (ToServer k most) = served_at x short s k most (slice_get s.links k)
-state_after x short s (ToClient k most) = reported_at s k most (slice_get s.links k)
+state_after x short s (ToClient k most) = received_at s k most (slice_get s.links k)
 
 -- the bytes of an edit or an append are bytes
-abbrev pub FitsStep : Step → Type 0
-FitsStep (Edit i bytes) = All (λ b. b < 2 ^ 8) bytes
-FitsStep (Append bytes) = All (λ b. b < 2 ^ 8) bytes
-FitsStep _ = Unit {0}
+abbrev pub HasBytes : Step → Type 0
+HasBytes (Edit i bytes) = All (λ b. b < 2 ^ 8) bytes
+HasBytes (Append bytes) = All (λ b. b < 2 ^ 8) bytes
+HasBytes _ = Unit {0}
 
 -- One step: the server has memory for its replies, or is out of it. At most one frame is on its way
 -- to it from each client, so nothing is lost by saying that of a whole delivery.
-abbrev pub Steps : Setting → State → Step → State → Type 0
-Steps x s step t = FitsStep step × ((t ≡ state_after x false s step) ⊎ (t ≡ state_after x true s step))
+abbrev pub StepsTo : Setting → State → Step → State → Type 0
+StepsTo x s step t = HasBytes step × ((t ≡ state_after x false s step) ⊎ (t ≡ state_after x true s step))
 
 -- these steps, one after another, lead from a state to another
-abbrev pub Run : Setting → State → List Step → State → Type 0
-Run x s [] t = t ≡ s
-Run x s (step ∷ steps) t = (mid : State) × Steps x s step mid × Run x mid steps t
+abbrev pub RunsTo : Setting → State → List Step → State → Type 0
+RunsTo x s [] t = t ≡ s
+RunsTo x s (step ∷ steps) t = (mid : State) × StepsTo x s step mid × RunsTo x mid steps t
 
 -- a link as it begins, of a client of wide stores or of ordinary ones
 abbrev pub fresh_link : Bool → List ℕ → Link

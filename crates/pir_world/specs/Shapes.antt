@@ -8,12 +8,12 @@ use Rattle.snapshot_file.specs.declared.snapshot.Header.{Header}
 use Rattle.server_core.specs.Serving.{Setting}
 use Rattle.client_core.specs.declared.state.CallFault.{CallFault}
 use Rattle.client_core.specs.declared.state.CallFault.TheVariants.{BadIndex}
-use Rattle.client_core.specs.Calls.{refusal}
+use Rattle.client_core.specs.Calls.{call_refusal}
 use Rattle.client_core.specs.Calls.{Ask as ask_call}
 use Rattle.client_core.specs.Shapes.{FrameShape, shape_of_frame}
 use Rattle.pir_world.specs.declared.steps.Step.{Step}
 use Rattle.pir_world.specs.declared.steps.Step.TheVariants.{Ask}
-use Rattle.pir_world.specs.Runs.{State, Link, Entry, Called, Sent, Served, Run, state_after, opening, setting_in}
+use Rattle.pir_world.specs.Runs.{State, Link, Entry, Called, Sent, Served, RunsTo, state_after, opening, setting_in}
 use Rattle.pir_world.specs.Headlines.{IsOpening}
 
 -- ---- shapes
@@ -35,8 +35,8 @@ sights k _ = []
 
 -- two logs show the same of each client, in the same order; how what they show of one client lies
 -- between what they show of another is not compared
-abbrev pub HaveEqualShapes : List Entry → List Entry → Type 0
-HaveEqualShapes log other = (k : ℕ) → flat_map (sights k) log ≡ flat_map (sights k) other
+abbrev pub HaveEqualSights : List Entry → List Entry → Type 0
+HaveEqualSights log other = (k : ℕ) → flat_map (sights k) log ≡ flat_map (sights k) other
 
 -- ---- steps that differ in indices alone
 
@@ -60,12 +60,12 @@ HadMemory _ = Unit {0}
 
 -- an ask is not refused for its index, if the other step is one of another index
 abbrev pub AskIsWithin : State → Step → Step → Type 0
-AskIsWithin s (Ask k i) other = other ≢ Ask k i → (l : Link) → slice_get s.links k ≡ Some l → refusal (ask_call i) l.client ≢ Some BadIndex
+AskIsWithin s (Ask k i) other = other ≢ Ask k i → (l : Link) → slice_get s.links k ≡ Some l → call_refusal (ask_call i) l.client ≢ Some BadIndex
 AskIsWithin s _ other = Unit {0}
 
 -- From a state on, with a server that has memory, no step of the first list is an ask that is
 -- refused for its index, unless the other list has the same ask in its place: that may be any, even
--- one of no record, or of a client that was not let in.
+-- one of no record.
 abbrev pub AsksAreWithin : Setting → State → List Step → List Step → Type 0
 AsksAreWithin x s (step ∷ steps) (other ∷ others) = AskIsWithin s step other × AsksAreWithin x (state_after x false s step) steps others
 AsksAreWithin x s _ _ = Unit {0}
@@ -73,7 +73,7 @@ AsksAreWithin x s _ _ = Unit {0}
 -- a run without refusals for memory, in which no ask is refused for its index whose index differs
 -- from that in the other steps
 pub record IsPlainRun (x : Setting) (s : State) (steps others : List Step) (t : State) : Type 0 where
-  pub run : Run x s steps t
+  pub run : RunsTo x s steps t
   pub memory : AllByRecursion HadMemory t.log
   pub within : AsksAreWithin x s steps others
 
@@ -87,7 +87,7 @@ abbrev pub IndicesChangeNoShape : Type 0
 IndicesChangeNoShape = (h : Header) (records : List ℕ) (seeds : List (List ℕ)) (steps others : List Step) (last last2 : State) →
     IsOpening h records → AreStepsLike steps others →
     IsPlainRun (setting_in h) (opening h records seeds) steps others last → IsPlainRun (setting_in h) (opening h records seeds) others steps last2 →
-    HaveEqualShapes last.log last2.log
+    HaveEqualSights last.log last2.log
 
 -- Take any run from `start` whose steps differ from these in the indices of asks alone, beside the
 -- run of these that led to `s`. If in neither a reply is refused for lack of memory, nor an ask
@@ -97,4 +97,4 @@ IndicesChangeNoShape = (h : Header) (records : List ℕ) (seeds : List (List ℕ
 abbrev pub HidesIndices : Setting → State → List Step → State → Type 0
 HidesIndices x start steps s = (others : List Step) (last : State) → AreStepsLike steps others →
     AllByRecursion HadMemory s.log → AsksAreWithin x start steps others →
-    Run x start others last → AllByRecursion HadMemory last.log → AsksAreWithin x start others steps → HaveEqualShapes s.log last.log
+    RunsTo x start others last → AllByRecursion HadMemory last.log → AsksAreWithin x start others steps → HaveEqualSights s.log last.log

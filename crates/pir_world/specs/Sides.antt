@@ -5,14 +5,14 @@ use Rattle.frame_codec.specs.Frames.{encoding}
 use Rattle.frame_codec.specs.Streams.{IsFrameOf}
 use Rattle.version_store.specs.Histories.{StoreState, History, StandsFor}
 use Rattle.server_core.specs.Serving.{Setting, is_wide_setting, setting_of}
-use Rattle.server_core.specs.Sessions.{Session, Fed}
+use Rattle.server_core.specs.Sessions.{Session, FeedsStore}
 use Rattle.server_core.specs.Cores.{Core, session_of}
 use Rattle.pir_schemes.specs.Plans.{client_profile}
 use Rattle.client_core.specs.declared.state.CallFault.{CallFault}
 use Rattle.client_core.specs.declared.state.ClientFault.{ClientFault}
 use Rattle.client_core.specs.declared.state.Event.{Event}
 use Rattle.client_core.specs.States.{fresh_in}
-use Rattle.client_core.specs.Calls.{ClientCall, Accepts, refusal}
+use Rattle.client_core.specs.Calls.{ClientCall, Accepts, call_refusal}
 use Rattle.client_core.specs.Calls.{Hello as hello_call, Sync as sync_call, Ask as ask_call}
 use Rattle.client_core.specs.Feeding.{Client, FeedsClient}
 use Rattle.pir_world.specs.declared.steps.Step.{Step}
@@ -67,7 +67,7 @@ pub record TakesDelivery (most : ℕ) (old : Side) (out : List ℕ) (events : Li
 pub record ServesDelivery (most : ℕ) (h : History) (before : StoreState) (old : Side) (session : Session) (after : StoreState) (new : Side)
     (then_ : Session) : Type 0 where
   pub replies : List ℕ
-  pub fed : Fed (setting_of before) h session (prefix most old.up) (Ok tt) after then_ [] replies
+  pub fed : FeedsStore (setting_of before) h session (prefix most old.up) (Ok tt) after then_ [] replies
   pub client : new.client ≡ old.client
   pub up : new.up ≡ rest most old.up
   pub down : new.down ≡ old.down ++ replies
@@ -77,9 +77,9 @@ abbrev pub MakesCall : ClientCall → Side → Option CallFault → Side → Typ
 MakesCall want old None new =
     (bytes : List ℕ) × Accepts old.client.state want new.client.state bytes × (new.client.reader ≡ old.client.reader) × (new.up ≡ old.up ++ bytes)
     × (new.down ≡ old.down)
-MakesCall want old (Some fault) new = (refusal want old.client.state ≡ Some fault) × (new ≡ old)
+MakesCall want old (Some fault) new = (call_refusal want old.client.state ≡ Some fault) × (new ≡ old)
 
--- a wire of a database, wide or not, by its bytes: what the reader has of the next frame, and then
+-- a wire of a store, wide or not, by its bytes: what the reader has of the next frame, and then
 -- what waits, encode the frames on their way
 pub record Carries (wide : Bool) (reader : Option (List ℕ)) (waiting : List ℕ) (w : Wire) : Type 0 where
   pub unfinished : List ℕ

@@ -4,7 +4,7 @@ use Rattle.snapshot_file.specs.declared.snapshot.Header.{Header}
 use Rattle.server_core.specs.Cores.{Core}
 use Rattle.pir_world.specs.declared.steps.Step.{Step}
 use Rattle.pir_world.specs.declared.steps.Outcome.{Outcome}
-use Rattle.pir_world.specs.Runs.{State, Run, opening, outcomes_of, setting_in}
+use Rattle.pir_world.specs.Runs.{State, RunsTo, opening, outcomes_of, setting_in}
 use Rattle.pir_world.specs.Headlines.{IsOpening}
 use Rattle.pir_world.specs.Sides.{Side, Implements}
 
@@ -24,7 +24,7 @@ pub record Kept : Type 0 where
 -- until memory was refused in a step, its parts are the state's
 pub record IsRunOf (w : Kept) (s : State) : Type 0 where
   pub opens : IsOpening w.header w.records
-  pub run : Run (setting_in w.header) (opening w.header w.records w.seeds) w.steps s
+  pub run : RunsTo (setting_in w.header) (opening w.header w.records w.seeds) w.steps s
   pub outcomes_are : w.outcomes ≡ outcomes_of s.log
   pub parts : w.broken ≡ false → Implements (setting_in w.header) w.core w.ends w.outcomes s
 

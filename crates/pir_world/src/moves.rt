@@ -6,7 +6,7 @@ ghost use Rattle.server_core.specs.Cores.{Core};
 ghost use Rattle.server_core.specs.Serving.{Setting};
 ghost use Rattle.pir_world.specs.declared.steps.Outcome.TheVariants.{Reported};
 ghost use Rattle.pir_world.specs.declared.steps.Step.TheVariants as step;
-ghost use Rattle.pir_world.specs.Runs.{State, Steps, state_after, append_after, edit_after};
+ghost use Rattle.pir_world.specs.Runs.{State, StepsTo, state_after, append_after, edit_after};
 ghost use Rattle.pir_world.specs.Runs.{publish_after, called_at};
 ghost use Rattle.pir_world.specs.Invariants.{WorldInvariant};
 ghost use Rattle.pir_world.specs.Sides.{Side, Implements, call_of, has_client};
@@ -47,7 +47,7 @@ pub fn apply_step<K: Kernel>(
     requires { has_client step.now (length ends.old.items) ≡ true }
     ensures made { OnOk result ((x : Setting) (seeds : List (List ℕ)) (s : State) →
         WorldInvariant x seeds s → Implements x server.old ends.old.items outcomes.old.items s →
-        (t : State) × Steps x s step.now t ×
+        (t : State) × StepsTo x s step.now t ×
         Implements x server.new ends.new.items outcomes.new.items t) }
     ensures clients { length ends.new.items ≡ length ends.old.items }
     ensures none { OnErr result (outcomes.new.items ≡ outcomes.old.items) }

@@ -6,7 +6,7 @@ ghost use Rattle.snapshot_file.specs.Snapshots.{header_of};
 ghost use Rattle.version_store.specs.Openings.{IsOpenFault};
 ghost use Rattle.server_core.specs.Cores.{session_of};
 ghost use Rattle.server_core.specs.Sessions.{new_session};
-ghost use Rattle.pir_world.specs.Runs.{State, Steps, opening, outcomes_of, setting_in};
+ghost use Rattle.pir_world.specs.Runs.{State, StepsTo, opening, outcomes_of, setting_in};
 ghost use Rattle.pir_world.specs.Freshness.{IsFreshLog};
 ghost use Rattle.pir_world.specs.Headlines.{Headline, IsRunFrom};
 ghost use Rattle.pir_world.specs.Shapes.{HidesIndices};
@@ -24,8 +24,7 @@ use std::alloc::{AllocError, Global};
 use std::marker::Model;
 use version_store::{Header, OpenError, Snapshot, Store};
 
-/// A store after its server, and clients with a session each, with the bytes that wait between
-/// them.
+/// A server over one store, and clients with a session each, with the bytes that wait between them.
 ///
 /// Contracts see what it was opened with, the server, the clients' ends, the steps made, the
 /// outcomes, and whether memory was refused in a step. The outcomes are those of a run of the
@@ -45,13 +44,13 @@ pub struct World<K: Kernel> {
 
 impl<K: Kernel> Model for World<K> {
     ghost use Rattle.pir_world.specs.Worlds.{Kept};
-    ghost use Rattle.pir_world.specs.Inside.{IsKept, shown};
+    ghost use Rattle.pir_world.specs.Inside.{IsKeptRun, shown};
 
     ghost Value = { Kept };
 
     ghost view = { shown };
 
-    ghost invariant = { IsKept };
+    ghost invariant = { IsKeptRun };
 }
 
 impl<K: Kernel> World<K> {
@@ -151,7 +150,7 @@ impl<K: Kernel> World<K> {
     /// refused with code 12, and the world goes on.
     pub fn step(&mut self, step: Step) -> Result<(), StepFault>
         ensures extends { OnOk result ((s : State) → IsRunOf self.old s → (t : State) ×
-            Steps (setting_in self.old.header) s step t × IsRunOf self.new t) }
+            StepsTo (setting_in self.old.header) s step t × IsRunOf self.new t) }
         ensures steps { OnOk result (self.new.steps ≡ self.old.steps ++ step ∷ []) }
         ensures alive { OnOk result ((self.old.broken ≡ false) × (self.new.broken ≡ false)) }
         ensures broken { IsErrOf result StepFault.Broken ↔ (self.old.broken ≡ true) }

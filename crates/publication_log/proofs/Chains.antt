@@ -1,18 +1,18 @@
 -- Entries of publications, one after another.
 use Rattle.std.proofs.Common.{◌≡◌, ℕ, ◌+◌, ◌<◌, List, [], ◌∷◌, ◌++◌, length, refl, sym, ap, subst, ◌∙◌, append_assoc, append-nil, arith}
 use Rattle.publication_log.specs.Publications.{Published, body_bytes, IsPublished}
-use Rattle.publication_log.specs.Entries.{entry, next_link, last_link, chain_bytes, IsBody, HasNoEntry}
+use Rattle.publication_log.specs.Entries.{log_entry, next_link, last_link, chain_bytes, IsBody, HasNoEntry}
 use Rattle.publication_log.specs.Logs.{bodies_of, AreNext}
 use Rattle.publication_log.proofs.Frames.{one_entry}
 use Rattle.publication_log.proofs.Placings.{one_body}
 
 -- one more entry at the end
-pub chain_push : (link : List ℕ) (ps : List Published) (p : Published) → chain_bytes link (bodies_of (ps ++ p ∷ [])) ≡ chain_bytes link (bodies_of ps) ++ entry (last_link link (bodies_of ps)) (body_bytes p)
-chain_push link [] p = append-nil (entry link (body_bytes p))
+pub chain_push : (link : List ℕ) (ps : List Published) (p : Published) → chain_bytes link (bodies_of (ps ++ p ∷ [])) ≡ chain_bytes link (bodies_of ps) ++ log_entry (last_link link (bodies_of ps)) (body_bytes p)
+chain_push link [] p = append-nil (log_entry link (body_bytes p))
 chain_push link (q ∷ qs) p =
     let next : List ℕ = next_link link (body_bytes q) in
-    ap (λ (x : List ℕ). entry link (body_bytes q) ++ x) (chain_push next qs p)
-    ∙ sym (append_assoc (entry link (body_bytes q)) (chain_bytes next (bodies_of qs)) (entry (last_link next (bodies_of qs)) (body_bytes p)))
+    ap (λ (x : List ℕ). log_entry link (body_bytes q) ++ x) (chain_push next qs p)
+    ∙ sym (append_assoc (log_entry link (body_bytes q)) (chain_bytes next (bodies_of qs)) (log_entry (last_link next (bodies_of qs)) (body_bytes p)))
 
 pub last_push : (link : List ℕ) (ps : List Published) (p : Published) → last_link link (bodies_of (ps ++ p ∷ [])) ≡ next_link (last_link link (bodies_of ps)) (body_bytes p)
 last_push link [] p = refl
@@ -36,8 +36,8 @@ next_last version [] p each = each.0
 next_last version (q ∷ qs) p each = next_last (version + 1) qs p each.2
 
 -- the entries after the first
-rest_of : (link : List ℕ) (p : Published) (ps : List Published) (r : List ℕ) → chain_bytes link (bodies_of (p ∷ ps)) ++ r ≡ entry link (body_bytes p) ++ (chain_bytes (next_link link (body_bytes p)) (bodies_of ps) ++ r)
-rest_of link p ps r = append_assoc (entry link (body_bytes p)) (chain_bytes (next_link link (body_bytes p)) (bodies_of ps)) r
+rest_of : (link : List ℕ) (p : Published) (ps : List Published) (r : List ℕ) → chain_bytes link (bodies_of (p ∷ ps)) ++ r ≡ log_entry link (body_bytes p) ++ (chain_bytes (next_link link (body_bytes p)) (bodies_of ps) ++ r)
+rest_of link p ps r = append_assoc (log_entry link (body_bytes p)) (chain_bytes (next_link link (body_bytes p)) (bodies_of ps)) r
 
 -- the same bytes are the same publications
 pub one_chain : (link : List ℕ) (v w : ℕ) (ps qs : List Published) (r s : List ℕ) → AreNext v ps → AreNext w qs → chain_bytes link (bodies_of ps) ++ r ≡ chain_bytes link (bodies_of qs) ++ s
@@ -56,20 +56,20 @@ one_chain link v w (p ∷ ps) (q ∷ qs) r s ip iq e nr ns =
 
 -- a whole entry after some of the publications is one of them
 pub entry_is_one : (link : List ℕ) (v w : ℕ) (ps qs : List Published) (r body more : List ℕ) → AreNext v ps → AreNext w qs → IsBody body
-    → chain_bytes link (bodies_of ps) ++ r ≡ chain_bytes link (bodies_of qs) ++ (entry (last_link link (bodies_of qs)) body ++ more) → HasNoEntry (last_link link (bodies_of ps)) r
+    → chain_bytes link (bodies_of ps) ++ r ≡ chain_bytes link (bodies_of qs) ++ (log_entry (last_link link (bodies_of qs)) body ++ more) → HasNoEntry (last_link link (bodies_of ps)) r
     → (p : Published) × IsPublished p × (body ≡ body_bytes p) × (p.version ≡ v + length qs + 1)
 entry_is_one link v w [] [] r body more ip iq is e nr = absurd (nr body more is e)
 entry_is_one link v w [] (q ∷ qs) r body more ip iq is e nr =
-    let beyond : List ℕ = entry (last_link link (bodies_of (q ∷ qs))) body ++ more in
+    let beyond : List ℕ = log_entry (last_link link (bodies_of (q ∷ qs))) body ++ more in
     absurd (nr (body_bytes q) (chain_bytes (next_link link (body_bytes q)) (bodies_of qs) ++ beyond) iq.0.len (e ∙ rest_of link q qs beyond))
 entry_is_one link v w (p ∷ ps) [] r body more ip iq is e nr =
     let same = one_entry link (body_bytes p) body _ _ ip.0.len is (sym (rest_of link p ps r) ∙ e) in
     (p, ip.0, sym same.0, omega (arith, ip.1))
 entry_is_one link v w (p ∷ ps) (q ∷ qs) r body more ip iq is e nr =
-    let beyond : List ℕ = entry (last_link link (bodies_of (q ∷ qs))) body ++ more in
+    let beyond : List ℕ = log_entry (last_link link (bodies_of (q ∷ qs))) body ++ more in
     let same = one_entry link (body_bytes p) (body_bytes q) _ _ ip.0.len iq.0.len (sym (rest_of link p ps r) ∙ e ∙ rest_of link q qs beyond) in
     let rest : chain_bytes (next_link link (body_bytes p)) (bodies_of ps) ++ r
-    ≡ chain_bytes (next_link link (body_bytes p)) (bodies_of qs) ++ (entry (last_link (next_link link (body_bytes p)) (bodies_of qs)) body ++ more) =
-    same.1 ∙ ap (λ (x : List ℕ). chain_bytes (next_link link x) (bodies_of qs) ++ (entry (last_link (next_link link x) (bodies_of qs)) body ++ more)) (sym same.0) in
+    ≡ chain_bytes (next_link link (body_bytes p)) (bodies_of qs) ++ (log_entry (last_link (next_link link (body_bytes p)) (bodies_of qs)) body ++ more) =
+    same.1 ∙ ap (λ (x : List ℕ). chain_bytes (next_link link x) (bodies_of qs) ++ (log_entry (last_link (next_link link x) (bodies_of qs)) body ++ more)) (sym same.0) in
     let found = entry_is_one (next_link link (body_bytes p)) (v + 1) (w + 1) ps qs r body more ip.2 iq.2 is rest nr in
     (found.0, found.1, found.2, omega (arith, found.3))

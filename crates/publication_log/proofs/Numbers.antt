@@ -6,7 +6,7 @@ use Rattle.std.specs.Int.{byte_at, bytes_low_first, w32, to_be_bytes}
 use Rattle.byteorder.specs.Endian.{little_from, little_number, little_bytes}
 use Rattle.byteorder.specs.Numbers.{little_from-cons, little_number-reads_back, length-bytes_low_first}
 use Rattle.sha2.specs.Sha256.{sha256, digest_bytes}
-use Rattle.publication_log.specs.Publications.{number_bytes}
+use Rattle.publication_log.specs.Publications.{log_number_bytes}
 
 -- each is a byte
 abbrev pub IsBytes : List ℕ → Type 0
@@ -42,16 +42,16 @@ only_bytes (suc n) (b ∷ bytes) fits le =
     ap (λ (y : ℕ). bytes_low_first 0 (suc n) y) e ∙ ap (λ (y : ℕ). y ∷ bytes_low_first 1 n (b + 256 * r)) low ∙ ap (λ (ys : List ℕ). b ∷ ys) rest
 
 -- a number that was read has the bytes that were read
-pub number_read : (n x : ℕ) (bytes : List ℕ) → IsBytes bytes → n ≤ length bytes → x ≡ little_number n bytes → number_bytes n x ≡ take n bytes
-unfolding number_bytes
+pub number_read : (n x : ℕ) (bytes : List ℕ) → IsBytes bytes → n ≤ length bytes → x ≡ little_number n bytes → log_number_bytes n x ≡ take n bytes
+unfolding log_number_bytes
 number_read n x bytes fits le e = ap (little_bytes n) e ∙ only_bytes n bytes fits le
 
-pub length-number : (n x : ℕ) → length (number_bytes n x) ≡ n
-unfolding number_bytes
+pub length-number : (n x : ℕ) → length (log_number_bytes n x) ≡ n
+unfolding log_number_bytes
 length-number n x = length-bytes_low_first 0 n x
 
-pub number_back : (n x : ℕ) (more : List ℕ) → x < 256 ^ n → little_number n (number_bytes n x ++ more) ≡ x
-unfolding number_bytes
+pub number_back : (n x : ℕ) (more : List ℕ) → x < 256 ^ n → little_number n (log_number_bytes n x ++ more) ≡ x
+unfolding log_number_bytes
 number_back n x more h = little_number-reads_back n x more h
 
 -- what is from a place on
@@ -66,7 +66,7 @@ cut_prefix a b x y len e = (
 )
 
 -- no two numbers have the same bytes
-pub one_number : (n x y : ℕ) → x < 256 ^ n → y < 256 ^ n → number_bytes n x ≡ number_bytes n y → x ≡ y
+pub one_number : (n x y : ℕ) → x < 256 ^ n → y < 256 ^ n → log_number_bytes n x ≡ log_number_bytes n y → x ≡ y
 one_number n x y hx hy e = sym (number_back n x [] hx) ∙ ap (λ (bytes : List ℕ). little_number n (bytes ++ [])) e ∙ number_back n y [] hy
 
 length-digest_bytes : (h : List ℕ) (n : ℕ) → length (digest_bytes h n) ≡ 4 * n

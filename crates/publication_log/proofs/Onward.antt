@@ -3,8 +3,8 @@ use Rattle.std.proofs.Common.{◌≡◌, ℕ, ◌+◌, ◌<◌, ◌≤◌, List,
 use Rattle.std.proofs.lemmas.List.{length-drop, take_at, drop_at, drop_all}
 use Rattle.publication_log.specs.declared.header.LogHeader.{LogHeader}
 use Rattle.publication_log.specs.Publications.{Published, body_bytes, IsPublished}
-use Rattle.publication_log.specs.Entries.{entry, framed, next_link, last_link, chain_bytes, IsBody}
-use Rattle.publication_log.specs.Logs.{log_bytes, end_link, bodies_of, AreNext, Reads}
+use Rattle.publication_log.specs.Entries.{log_entry, framed, next_link, last_link, chain_bytes, IsBody}
+use Rattle.publication_log.specs.Logs.{log_bytes, end_link, bodies_of, AreNext, ReadsLog}
 use Rattle.publication_log.specs.Laws.{WholeLogIsRead}
 use Rattle.publication_log.proofs.Chains.{chain_push, last_push}
 use Rattle.publication_log.proofs.Frames.{length-next, entry_parts, one_frame}
@@ -90,14 +90,14 @@ after_all link ps done left bytes n is none few =
 
 -- the entries of those that were read, linked anew
 pub linked_on : (first bytes more body : List ℕ) (link at : List ℕ) (done : List Published) (p : Published) →
-    bytes ≡ first ++ chain_bytes link (bodies_of done) → at ≡ last_link link (bodies_of done) → more ≡ bytes ++ entry at body → body ≡ body_bytes p →
+    bytes ≡ first ++ chain_bytes link (bodies_of done) → at ≡ last_link link (bodies_of done) → more ≡ bytes ++ log_entry at body → body ≡ body_bytes p →
     more ≡ first ++ chain_bytes link (bodies_of (done ++ p ∷ []))
 linked_on first bytes more body link at done p before here added is =
     added
-    ∙ ap (λ (x : List ℕ). bytes ++ entry at x) is
-    ∙ ap (λ (x : List ℕ). bytes ++ entry x (body_bytes p)) here
-    ∙ ap (λ (x : List ℕ). x ++ entry (last_link link (bodies_of done)) (body_bytes p)) before
-    ∙ append_assoc first (chain_bytes link (bodies_of done)) (entry (last_link link (bodies_of done)) (body_bytes p))
+    ∙ ap (λ (x : List ℕ). bytes ++ log_entry at x) is
+    ∙ ap (λ (x : List ℕ). bytes ++ log_entry x (body_bytes p)) here
+    ∙ ap (λ (x : List ℕ). x ++ log_entry (last_link link (bodies_of done)) (body_bytes p)) before
+    ∙ append_assoc first (chain_bytes link (bodies_of done)) (log_entry (last_link link (bodies_of done)) (body_bytes p))
     ∙ ap (λ (x : List ℕ). first ++ x) (sym (chain_push link done p))
 
 -- ---- a whole log is read as its publications
@@ -105,7 +105,7 @@ linked_on first bytes more body link at done p before here added is =
 ok_parts : {X E : Type 0} (a b : X) → Ok a ≡ (let r : Result X E = Ok b in r) → a ≡ b
 ok_parts a b e = cc
 
-whole_reads : (h : LogHeader) (ps : List Published) → AreNext h.version ps → Reads h (log_bytes h ps) ps []
+whole_reads : (h : LogHeader) (ps : List Published) → AreNext h.version ps → ReadsLog h (log_bytes h ps) ps []
 whole_reads h ps each = record {
   begins = record { whole = sym (append-nil (log_bytes h ps)); each = each };
   torn = torn_empty (end_link h ps);

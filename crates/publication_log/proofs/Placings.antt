@@ -5,18 +5,18 @@ use Rattle.std.proofs.lemmas.List.{length-append, length-drop, take-append-drop,
 use Rattle.byteorder.specs.Endian.{little_number}
 use Rattle.publication_log.specs.declared.changes.BodyFault.{BodyFault}
 use Rattle.publication_log.specs.declared.changes.BodyFault.TheVariants.{Short, NotAscending}
-use Rattle.publication_log.specs.Publications.{Placed, Published, number_bytes, placed_bytes, changes_bytes, body_bytes, next_place, IsPlaced, AreChanges, IsPublished, IsCutShort, HasChangesFault, IsFaultyAfterVersion, HasBodyFault}
+use Rattle.publication_log.specs.Publications.{Placed, Published, log_number_bytes, placed_bytes, changes_bytes, body_bytes, next_place, IsPlaced, AreChanges, IsPublished, IsCutShort, HasChangesFault, IsFaultyAfterVersion, HasBodyFault}
 use Rattle.publication_log.proofs.Numbers.{IsBytes, IsBytes-drop, number_read, number_back, length-number, cut_prefix, one_number}
 
 pub length-placed : (c : Placed) → length (placed_bytes c) ≡ length c.bytes + 6
 length-placed c =
-    omega (arith, length-append (number_bytes 4 c.place) (number_bytes 2 (length c.bytes) ++ c.bytes), length-append (number_bytes 2 (length c.bytes)) c.bytes, length-number 4 c.place, length-number 2 (length c.bytes))
+    omega (arith, length-append (log_number_bytes 4 c.place) (log_number_bytes 2 (length c.bytes) ++ c.bytes), length-append (log_number_bytes 2 (length c.bytes)) c.bytes, length-number 4 c.place, length-number 2 (length c.bytes))
 
 -- a change and what follows, taken apart
-pub placed_parts : (c : Placed) (more : List ℕ) → placed_bytes c ++ more ≡ number_bytes 4 c.place ++ (number_bytes 2 (length c.bytes) ++ (c.bytes ++ more))
+pub placed_parts : (c : Placed) (more : List ℕ) → placed_bytes c ++ more ≡ log_number_bytes 4 c.place ++ (log_number_bytes 2 (length c.bytes) ++ (c.bytes ++ more))
 placed_parts c more =
-    append_assoc (number_bytes 4 c.place) (number_bytes 2 (length c.bytes) ++ c.bytes) more
-    ∙ ap (λ (x : List ℕ). number_bytes 4 c.place ++ x) (append_assoc (number_bytes 2 (length c.bytes)) c.bytes more)
+    append_assoc (log_number_bytes 4 c.place) (log_number_bytes 2 (length c.bytes) ++ c.bytes) more
+    ∙ ap (λ (x : List ℕ). log_number_bytes 4 c.place ++ x) (append_assoc (log_number_bytes 2 (length c.bytes)) c.bytes more)
 
 -- changes of one place and the same bytes are one
 same_placed : (c d : Placed) → c.place ≡ d.place → c.bytes ≡ d.bytes → c ≡ d
@@ -28,8 +28,8 @@ same_placed c d p b =
 pub one_placed : (c d : Placed) (x y : List ℕ) → IsPlaced c → IsPlaced d → placed_bytes c ++ x ≡ placed_bytes d ++ y → (c ≡ d) × (x ≡ y)
 one_placed c d x y ic id e =
     let all = sym (placed_parts c x) ∙ e ∙ placed_parts d y in
-    let first = cut_prefix (number_bytes 4 c.place) (number_bytes 4 d.place) _ _ (length-number 4 c.place ∙ sym (length-number 4 d.place)) all in
-    let second = cut_prefix (number_bytes 2 (length c.bytes)) (number_bytes 2 (length d.bytes)) (c.bytes ++ x) (d.bytes ++ y) (length-number 2 (length c.bytes) ∙ sym (length-number 2 (length d.bytes))) first.1 in
+    let first = cut_prefix (log_number_bytes 4 c.place) (log_number_bytes 4 d.place) _ _ (length-number 4 c.place ∙ sym (length-number 4 d.place)) all in
+    let second = cut_prefix (log_number_bytes 2 (length c.bytes)) (log_number_bytes 2 (length d.bytes)) (c.bytes ++ x) (d.bytes ++ y) (length-number 2 (length c.bytes) ∙ sym (length-number 2 (length d.bytes))) first.1 in
     let len : length c.bytes ≡ length d.bytes = one_number 2 (length c.bytes) (length d.bytes) ic.len id.len second.0 in
     let third = cut_prefix c.bytes d.bytes x y len second.1 in
     (same_placed c d (one_number 4 c.place d.place ic.place id.place first.0) third.0, third.1)
@@ -39,24 +39,24 @@ pub placed_joined : (bytes after payload rest : List ℕ) (place len : ℕ) → 
     → after ≡ drop 6 bytes → payload ≡ take len after → rest ≡ drop len after → length payload ≡ len
     → bytes ≡ placed_bytes (record { place = place; bytes = payload }) ++ rest
 placed_joined bytes after payload rest place len fits long p l h1 h2 h3 count =
-    let first : number_bytes 4 place ≡ take 4 bytes = number_read 4 place bytes fits (omega (arith, long)) p in
-    let second : number_bytes 2 (length payload) ≡ take 2 (drop 4 bytes) =
+    let first : log_number_bytes 4 place ≡ take 4 bytes = number_read 4 place bytes fits (omega (arith, long)) p in
+    let second : log_number_bytes 2 (length payload) ≡ take 2 (drop 4 bytes) =
     number_read 2 (length payload) (drop 4 bytes) (IsBytes-drop 4 bytes fits) (omega (arith, long, length-drop 4 bytes)) (count ∙ l) in
     let third : after ≡ payload ++ rest = sym (take-append-drop len after) ∙ ap (λ (x : List ℕ). x ++ drop len after) (sym h2) ∙ ap (λ (x : List ℕ). payload ++ x) (sym h3) in
     let beyond : drop 2 (drop 4 bytes) ≡ payload ++ rest = drop-drop 2 4 bytes ∙ sym h1 ∙ third in
-    let middle : drop 4 bytes ≡ number_bytes 2 (length payload) ++ (payload ++ rest) =
-    sym (take-append-drop 2 (drop 4 bytes)) ∙ ap (λ (x : List ℕ). x ++ drop 2 (drop 4 bytes)) (sym second) ∙ ap (λ (x : List ℕ). number_bytes 2 (length payload) ++ x) beyond in
+    let middle : drop 4 bytes ≡ log_number_bytes 2 (length payload) ++ (payload ++ rest) =
+    sym (take-append-drop 2 (drop 4 bytes)) ∙ ap (λ (x : List ℕ). x ++ drop 2 (drop 4 bytes)) (sym second) ∙ ap (λ (x : List ℕ). log_number_bytes 2 (length payload) ++ x) beyond in
     sym (take-append-drop 4 bytes)
     ∙ ap (λ (x : List ℕ). x ++ drop 4 bytes) (sym first)
-    ∙ ap (λ (x : List ℕ). number_bytes 4 place ++ x) middle
+    ∙ ap (λ (x : List ℕ). log_number_bytes 4 place ++ x) middle
     ∙ sym (placed_parts (record { place = place; bytes = payload }) rest)
 
 -- the length that is read is that of the record
 pub placed_len : (bytes more : List ℕ) (c : Placed) → IsPlaced c → bytes ≡ placed_bytes c ++ more → (little_number 2 (drop 4 bytes) ≡ length c.bytes) × (length bytes ≡ length c.bytes + 6 + length more)
 placed_len bytes more c is e =
-    let all : bytes ≡ number_bytes 4 c.place ++ (number_bytes 2 (length c.bytes) ++ (c.bytes ++ more)) = e ∙ placed_parts c more in (
+    let all : bytes ≡ log_number_bytes 4 c.place ++ (log_number_bytes 2 (length c.bytes) ++ (c.bytes ++ more)) = e ∙ placed_parts c more in (
       ap (λ (x : List ℕ). little_number 2 (drop 4 x)) all
-          ∙ ap (little_number 2) (drop_at (number_bytes 4 c.place) (number_bytes 2 (length c.bytes) ++ (c.bytes ++ more)) 4 (length-number 4 c.place))
+          ∙ ap (little_number 2) (drop_at (log_number_bytes 4 c.place) (log_number_bytes 2 (length c.bytes) ++ (c.bytes ++ more)) 4 (length-number 4 c.place))
           ∙ number_back 2 (length c.bytes) (c.bytes ++ more) is.len,
       omega (arith, ap length e, length-append (placed_bytes c) more, length-placed c),
     )
@@ -110,16 +110,16 @@ stuck_low low (b ∷ bs) (d ∷ ds) c rest ic id e is lt =
     stuck_low (b.place + 1) bs ds c rest ic.2 (subst (λ (x : Placed). AreChanges (x.place + 1) ds) (sym same.0) id.2) same.1 is lt
 
 pub length-body : (p : Published) → length (body_bytes p) ≡ length (changes_bytes p.changes) + 8
-length-body p = omega (arith, length-append (number_bytes 8 p.version) (changes_bytes p.changes), length-number 8 p.version)
+length-body p = omega (arith, length-append (log_number_bytes 8 p.version) (changes_bytes p.changes), length-number 8 p.version)
 
 -- bytes with a fault are no publication's
 pub fault_is_none : (fault : BodyFault) (body : List ℕ) (p : Published) → HasBodyFault fault body → IsPublished p → body ≡ body_bytes p → ⊥
 fault_is_none Short body p (inl lt) is e = absurd (omega (arith, lt, ap length e, length-body p))
 fault_is_none Short body p (inr (version, rest, fits, e1, (cs, more, each, e2, some, short))) is e =
-    let same = cut_prefix (number_bytes 8 version) (number_bytes 8 p.version) rest (changes_bytes p.changes) (length-number 8 version ∙ sym (length-number 8 p.version)) (sym e1 ∙ e) in
+    let same = cut_prefix (log_number_bytes 8 version) (log_number_bytes 8 p.version) rest (changes_bytes p.changes) (length-number 8 version ∙ sym (length-number 8 p.version)) (sym e1 ∙ e) in
     stuck_short 0 0 cs p.changes more each is.changes (sym e2 ∙ same.1) some short
 fault_is_none NotAscending body p (version, rest, fits, e1, (cs, c, more, each, e2, placed, lt)) is e =
-    let same = cut_prefix (number_bytes 8 version) (number_bytes 8 p.version) rest (changes_bytes p.changes) (length-number 8 version ∙ sym (length-number 8 p.version)) (sym e1 ∙ e) in
+    let same = cut_prefix (log_number_bytes 8 version) (log_number_bytes 8 p.version) rest (changes_bytes p.changes) (length-number 8 version ∙ sym (length-number 8 p.version)) (sym e1 ∙ e) in
     stuck_low 0 cs p.changes c more each is.changes (sym e2 ∙ same.1) placed lt
 
 -- a fault after the version is one of the body
@@ -128,8 +128,8 @@ body_fault Short body h = inr h
 body_fault NotAscending body h = h
 
 -- one more change at the end of a body
-pub body_push : (p : Published) (c : Placed) → body_bytes p ++ placed_bytes c ≡ number_bytes 8 p.version ++ changes_bytes (p.changes ++ c ∷ [])
-body_push p c = append_assoc (number_bytes 8 p.version) (changes_bytes p.changes) (placed_bytes c) ∙ ap (λ (x : List ℕ). number_bytes 8 p.version ++ x) (sym (changes_push p.changes c))
+pub body_push : (p : Published) (c : Placed) → body_bytes p ++ placed_bytes c ≡ log_number_bytes 8 p.version ++ changes_bytes (p.changes ++ c ∷ [])
+body_push p c = append_assoc (log_number_bytes 8 p.version) (changes_bytes p.changes) (placed_bytes c) ∙ ap (λ (x : List ℕ). log_number_bytes 8 p.version ++ x) (sym (changes_push p.changes c))
 
 same_published : (p q : Published) → p.version ≡ q.version → p.changes ≡ q.changes → p ≡ q
 same_published p q v c =
@@ -139,5 +139,5 @@ same_published p q v c =
 -- no two publications have the same bytes
 pub one_body : (p q : Published) → IsPublished p → IsPublished q → body_bytes p ≡ body_bytes q → p ≡ q
 one_body p q ip iq e =
-    let same = cut_prefix (number_bytes 8 p.version) (number_bytes 8 q.version) (changes_bytes p.changes) (changes_bytes q.changes) (length-number 8 p.version ∙ sym (length-number 8 q.version)) e in
+    let same = cut_prefix (log_number_bytes 8 p.version) (log_number_bytes 8 q.version) (changes_bytes p.changes) (changes_bytes q.changes) (length-number 8 p.version ∙ sym (length-number 8 q.version)) e in
     same_published p q (one_number 8 p.version q.version ip.version iq.version same.0) (one_changes 0 0 p.changes q.changes ip.changes iq.changes same.1)

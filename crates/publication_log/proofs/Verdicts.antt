@@ -5,30 +5,30 @@ use Rattle.publication_log.specs.declared.header.LogHeader.{LogHeader}
 use Rattle.publication_log.specs.declared.reading.BadLog.{BadLog}
 use Rattle.publication_log.specs.declared.reading.BadLog.TheVariants.{OtherSnapshot, BadBody, BadVersion, Damaged}
 use Rattle.publication_log.specs.Publications.{Published, body_bytes}
-use Rattle.publication_log.specs.Entries.{chain_bytes, last_link, entry, HasNoEntry, HasLater, IsTorn}
-use Rattle.publication_log.specs.Logs.{header_bytes, first_link, bodies_of, log_bytes, end_link, AreNext, Begins, Reads, StopsBy, IsVerdict}
+use Rattle.publication_log.specs.Entries.{chain_bytes, last_link, log_entry, HasNoEntry, HasLater, IsTorn}
+use Rattle.publication_log.specs.Logs.{log_header_bytes, first_link, bodies_of, log_bytes, end_link, AreNext, BeginsWithLog, ReadsLog, StopsBy, IsLogVerdict}
 use Rattle.publication_log.proofs.Placings.{one_body}
 use Rattle.publication_log.proofs.Chains.{chain_push, one_chain, entry_is_one}
 
 -- what is after the header
-pub log_rest : (h : LogHeader) (ps : List Published) (r : List ℕ) → log_bytes h ps ++ r ≡ header_bytes h ++ (chain_bytes (first_link h) (bodies_of ps) ++ r)
-log_rest h ps r = append_assoc (header_bytes h) (chain_bytes (first_link h) (bodies_of ps)) r
+pub log_rest : (h : LogHeader) (ps : List Published) (r : List ℕ) → log_bytes h ps ++ r ≡ log_header_bytes h ++ (chain_bytes (first_link h) (bodies_of ps) ++ r)
+log_rest h ps r = append_assoc (log_header_bytes h) (chain_bytes (first_link h) (bodies_of ps)) r
 
-pub log_push : (h : LogHeader) (ps : List Published) (p : Published) → log_bytes h (ps ++ p ∷ []) ≡ log_bytes h ps ++ entry (end_link h ps) (body_bytes p)
+pub log_push : (h : LogHeader) (ps : List Published) (p : Published) → log_bytes h (ps ++ p ∷ []) ≡ log_bytes h ps ++ log_entry (end_link h ps) (body_bytes p)
 log_push h ps p =
-    ap (λ (x : List ℕ). header_bytes h ++ x) (chain_push (first_link h) ps p)
-    ∙ sym (append_assoc (header_bytes h) (chain_bytes (first_link h) (bodies_of ps)) (entry (end_link h ps) (body_bytes p)))
+    ap (λ (x : List ℕ). log_header_bytes h ++ x) (chain_push (first_link h) ps p)
+    ∙ sym (append_assoc (log_header_bytes h) (chain_bytes (first_link h) (bodies_of ps)) (log_entry (end_link h ps) (body_bytes p)))
 
 -- two logs of the same bytes go on alike after their headers
 pub same_rest : (h : LogHeader) (bytes : List ℕ) (ps qs : List Published) (r s : List ℕ) → bytes ≡ log_bytes h ps ++ r → bytes ≡ log_bytes h qs ++ s
     → chain_bytes (first_link h) (bodies_of ps) ++ r ≡ chain_bytes (first_link h) (bodies_of qs) ++ s
-same_rest h bytes ps qs r s a b = append_cancel_left (header_bytes h) _ _ (sym (log_rest h ps r) ∙ sym a ∙ b ∙ log_rest h qs s)
+same_rest h bytes ps qs r s a b = append_cancel_left (log_header_bytes h) _ _ (sym (log_rest h ps r) ∙ sym a ∙ b ∙ log_rest h qs s)
 
-pub one_log : (h : LogHeader) (bytes : List ℕ) (ps qs : List Published) (r s : List ℕ) → Begins h bytes ps r → Begins h bytes qs s → HasNoEntry (end_link h ps) r → HasNoEntry (end_link h qs) s → (ps ≡ qs) × (r ≡ s)
+pub one_log : (h : LogHeader) (bytes : List ℕ) (ps qs : List Published) (r s : List ℕ) → BeginsWithLog h bytes ps r → BeginsWithLog h bytes qs s → HasNoEntry (end_link h ps) r → HasNoEntry (end_link h qs) s → (ps ≡ qs) × (r ≡ s)
 one_log h bytes ps qs r s a b nr ns = one_chain (first_link h) h.version h.version ps qs r s a.each b.each (same_rest h bytes ps qs r s a.whole b.whole) nr ns
 
 -- nothing is wrong with a good log
-good_stops : (h : LogHeader) (bytes : List ℕ) (ps qs : List Published) (r s : List ℕ) (cause : BadLog) → Reads h bytes ps r → Begins h bytes qs s → StopsBy (end_link h qs) (h.version + length qs) cause s → ⊥
+good_stops : (h : LogHeader) (bytes : List ℕ) (ps qs : List Published) (r s : List ℕ) (cause : BadLog) → ReadsLog h bytes ps r → BeginsWithLog h bytes qs s → StopsBy (end_link h qs) (h.version + length qs) cause s → ⊥
 good_stops h bytes ps qs r s OtherSnapshot reads begins stops = absurd stops
 good_stops h bytes ps qs r s BadBody reads begins (body, more, is, e, none) =
     let same = same_rest h bytes ps qs r s reads.begins.whole begins.whole ∙ ap (λ (x : List ℕ). chain_bytes (first_link h) (bodies_of qs) ++ x) e in
@@ -49,7 +49,7 @@ same_pair ps qs r s e f =
     let made : List Published → List ℕ → Result (List Published × List ℕ) BadLog = λ (xs : List Published) (x : List ℕ). Ok (xs, x) in
     ap (λ (xs : List Published). made xs s) (sym e) ∙ ap (λ (x : List ℕ). made ps x) (sym f)
 
-pub verdict_is : (h : LogHeader) (bytes : List ℕ) (ps : List Published) (torn : List ℕ) (verdict : Result (List Published × List ℕ) BadLog) → Reads h bytes ps torn → IsVerdict h bytes verdict → verdict ≡ Ok (ps, torn)
+pub verdict_is : (h : LogHeader) (bytes : List ℕ) (ps : List Published) (torn : List ℕ) (verdict : Result (List Published × List ℕ) BadLog) → ReadsLog h bytes ps torn → IsLogVerdict h bytes verdict → verdict ≡ Ok (ps, torn)
 verdict_is h bytes ps torn (Ok (qs, s)) reads other =
     let same = one_log h bytes ps qs torn s reads.begins other.begins reads.torn.first other.torn.first in
     same_pair ps qs torn s same.0 same.1

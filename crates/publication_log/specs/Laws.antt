@@ -7,8 +7,8 @@ use Rattle.publication_log.specs.declared.reading.BadLog.{BadLog}
 use Rattle.publication_log.specs.declared.reading.Found.{Found}
 use Rattle.publication_log.specs.Publications.{Published, IsPublished, HasBodyFault, body_bytes}
 use Rattle.publication_log.specs.Builders.{IsMadeOf}
-use Rattle.publication_log.specs.Entries.{entry, next_link, IsTorn}
-use Rattle.publication_log.specs.Logs.{log_bytes, end_link, AreNext, IsVerdict, IsFound, HasCause}
+use Rattle.publication_log.specs.Entries.{log_entry, next_link, IsTorn}
+use Rattle.publication_log.specs.Logs.{log_bytes, end_link, AreNext, IsLogVerdict, IsFound, HasCause}
 use Rattle.publication_log.specs.Crashes.{MayFollow}
 
 -- a prefix of torn bytes is torn
@@ -16,9 +16,9 @@ abbrev pub TornPrefix : Type 0
 TornPrefix = (link rest : List ℕ) (n : ℕ) → IsTorn link rest → IsTorn link (take n rest)
 
 -- no bytes have two verdicts, if one is that they are a good log
-abbrev pub OneVerdict : Type 0
-OneVerdict = (h : LogHeader) (bytes : List ℕ) (ps : List Published) (torn : List ℕ) (verdict : Result (List Published × List ℕ) BadLog) →
-    IsVerdict h bytes (Ok (ps, torn)) → IsVerdict h bytes verdict → verdict ≡ Ok (ps, torn)
+abbrev pub OneLogVerdict : Type 0
+OneLogVerdict = (h : LogHeader) (bytes : List ℕ) (ps : List Published) (torn : List ℕ) (verdict : Result (List Published × List ℕ) BadLog) →
+    IsLogVerdict h bytes (Ok (ps, torn)) → IsLogVerdict h bytes verdict → verdict ≡ Ok (ps, torn)
 
 -- no two publications have the same bytes
 abbrev pub OneEncoding : Type 0
@@ -45,8 +45,8 @@ FoundIsEnd = (h : LogHeader) (bytes : List ℕ) (ps : List Published) (found : F
 abbrev pub EndGoesOn : Type 0
 EndGoesOn = (h : LogHeader) (ps : List Published) (p : Published) (builder : PublicationBuilder) (link : List ℕ) (version len : ℕ) →
     IsEndOf h ps link version len → IsMadeOf builder p → builder.version ≡ version + 1 → builder.version < 2 ^ 64 →
-    MayFollow h ps p × (entry link builder.body.items ≡ entry (end_link h ps) (body_bytes p))
-    × IsEndOf h (ps ++ p ∷ []) (next_link link builder.body.items) builder.version (len + length (entry link builder.body.items))
+    MayFollow h ps p × (log_entry link builder.body.items ≡ log_entry (end_link h ps) (body_bytes p))
+    × IsEndOf h (ps ++ p ∷ []) (next_link link builder.body.items) builder.version (len + length (log_entry link builder.body.items))
 
 -- the bytes of a log of publications that follow its snapshot are read as these and no others, to
 -- their end, and nothing is wrong with them

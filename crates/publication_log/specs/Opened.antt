@@ -24,13 +24,13 @@ end_of log = record { link = log.link; version = log.version; len = log.len }
 
 -- Whatever the file holds: what is handed out are the entries of publications that follow the
 -- snapshot's version one after another.
-pub record IsRead (h : LogHeader) (ps : List Published) (read : ReadLog) : Type 0 where
+pub record IsReadLog (h : LogHeader) (ps : List Published) (read : ReadLog) : Type 0 where
   pub each : AreNext h.version ps
   pub entries : entries_of read ≡ chain_bytes (first_link h) (bodies_of ps)
 
 -- a log that was read as these publications, after which the next one is appended
-pub record IsOpened {F : Type 0} (h : LogHeader) (ps : List Published) (opened : OpenedLog F) : Type 0 where
-  pub read : IsRead h ps opened.read
+pub record IsOpenedLog {F : Type 0} (h : LogHeader) (ps : List Published) (opened : OpenedLog F) : Type 0 where
+  pub read : IsReadLog h ps opened.read
   pub link : opened.log.link ≡ end_link h ps
   pub version : opened.log.version ≡ h.version + length ps
   pub untorn : opened.log.is_torn ≡ false

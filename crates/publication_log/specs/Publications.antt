@@ -15,12 +15,12 @@ pub record Published : Type 0 where
   pub changes : List Placed
 
 -- the n bytes of a number, the lowest first
-unfoldable pub number_bytes : ℕ → ℕ → List ℕ
-number_bytes n x = little_bytes n x
+unfoldable pub log_number_bytes : ℕ → ℕ → List ℕ
+log_number_bytes n x = little_bytes n x
 
 -- the place in four bytes, the length in two, and the bytes
 abbrev pub placed_bytes : Placed → List ℕ
-placed_bytes c = number_bytes 4 c.place ++ (number_bytes 2 (length c.bytes) ++ c.bytes)
+placed_bytes c = log_number_bytes 4 c.place ++ (log_number_bytes 2 (length c.bytes) ++ c.bytes)
 
 -- the bytes of changes, one after another
 abbrev pub changes_bytes : List Placed → List ℕ
@@ -29,7 +29,7 @@ changes_bytes (c ∷ cs) = placed_bytes c ++ changes_bytes cs
 
 -- the version in eight bytes, and the changes
 abbrev pub body_bytes : Published → List ℕ
-body_bytes p = number_bytes 8 p.version ++ changes_bytes p.changes
+body_bytes p = log_number_bytes 8 p.version ++ changes_bytes p.changes
 
 -- a place and a length that have an encoding
 pub record IsPlaced (c : Placed) : Type 0 where
@@ -63,7 +63,7 @@ HasChangesFault NotAscending bytes = (cs : List Placed) × (c : Placed) × (rest
 
 -- a version, and bytes with that fault after it
 abbrev pub IsFaultyAfterVersion : BodyFault → List ℕ → Type 0
-IsFaultyAfterVersion fault body = (version : ℕ) × (rest : List ℕ) × (version < 2 ^ 64) × (body ≡ number_bytes 8 version ++ rest) × HasChangesFault fault rest
+IsFaultyAfterVersion fault body = (version : ℕ) × (rest : List ℕ) × (version < 2 ^ 64) × (body ≡ log_number_bytes 8 version ++ rest) × HasChangesFault fault rest
 
 -- the first fault of bytes that are no publication's
 abbrev pub HasBodyFault : BodyFault → List ℕ → Type 0

@@ -75,7 +75,7 @@ impl PublicationBuilder {
     /// # Errors
     ///
     /// `AllocError` when memory was refused.
-    #[tactic(auto, unfolding(crate::specs::Publications::number_bytes))]
+    #[tactic(auto, unfolding(crate::specs::Publications::log_number_bytes))]
     pub fn new(alloc: Global, version: u64) -> Result<PublicationBuilder, AllocError>
         ensures { IfOk result (λ it. IsMadeOf it (record { version = version; changes = [] })) }
     {
@@ -120,7 +120,7 @@ impl PublicationBuilder {
 }
 
 // Adds the bytes of a change. After an `Err` a part of them may be there.
-#[tactic(auto, unfolding(crate::specs::Publications::number_bytes))]
+#[tactic(auto, unfolding(crate::specs::Publications::log_number_bytes))]
 fn push_change(body: &mut Vec<u8>, place: u32, bytes: &[u8]) -> Result<(), AllocError>
     requires { length bytes.now < 2 ^ 16 }
     ensures added { OnOk result (body.new.items ≡ body.old.items ++

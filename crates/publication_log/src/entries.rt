@@ -17,16 +17,16 @@ ghost use Rattle.std.specs.Prelude.{
   IfNone,
 };
 ghost use Rattle.publication_log.specs.Entries.{
-  head_bytes,
-  head_len,
+  entry_head,
+  body_len_in,
   framed,
   after_body,
-  entry,
+  log_entry,
   next_link,
   HasEntry,
   HasLater,
   HasNoEntry,
-  GoesOn,
+  IsFollowed,
   IsBody,
 };
 
@@ -41,10 +41,10 @@ pub(crate) const HEAD_LEN: usize = 8;
 pub(crate) const LINK_LEN: usize = 32;
 
 // The head of a body.
-#[tactic(auto, unfolding(crate::specs::Entries::head_bytes, crate::specs::Publications::number_bytes))]
+#[tactic(auto, unfolding(crate::specs::Entries::entry_head, crate::specs::Publications::log_number_bytes))]
 pub(crate) fn head_of(body: &[u8]) -> [u8; HEAD_LEN]
     requires { IsBody body.now }
-    ensures { result ≡ head_bytes (length body.now) }
+    ensures { result ≡ entry_head (length body.now) }
 {
     let len = body.len() as u32;
     let [a, b, c, d] = len.to_le_bytes();
@@ -78,10 +78,10 @@ pub(crate) fn entry_of(alloc: Global, body: &[u8], next: &[u8]) -> Result<Vec<u8
 }
 
 // The length that the head at the start has, if there is a head.
-#[tactic(auto, unfolding(crate::specs::Entries::head_len))]
+#[tactic(auto, unfolding(crate::specs::Entries::body_len_in))]
 fn head_len(bytes: &[u8]) -> Option<usize>
-    ensures value { result ≡ head_len bytes.now }
-    ensures read { IfSome result (λ len. take 8 bytes.now ≡ head_bytes len) }
+    ensures value { result ≡ body_len_in bytes.now }
+    ensures read { IfSome result (λ len. take 8 bytes.now ≡ entry_head len) }
     ensures long { IfSome result (λ len. 8 ≤ length bytes.now) }
     ensures fits { IfSome result (λ len. len < 2 ^ 32) }
 {
@@ -97,14 +97,14 @@ fn head_len(bytes: &[u8]) -> Option<usize>
 
 // A head and its body at the start of some bytes, a digest after them, and what is after that.
 #[derive(Clone, Copy)]
-pub(crate) struct Frame<'a> {
+pub(crate) struct FramedBody<'a> {
     pub body: &'a [u8],
     pub digest: &'a [u8],
     pub rest: &'a [u8],
 }
 
 // The frame at the start.
-pub(crate) fn frame_at(bytes: &[u8]) -> Option<Frame<'_>>
+pub(crate) fn frame_at(bytes: &[u8]) -> Option<FramedBody<'_>>
     ensures some { IfSome result (λ it. IsBody it.body.now × (length it.digest.now ≡ 32) ×
         (bytes.now ≡ framed it.body.now ++ (it.digest.now ++ it.rest.now))) }
     ensures shorter { IfSome result (λ it. length it.rest.now < length bytes.now) }
@@ -121,11 +121,11 @@ pub(crate) fn frame_at(bytes: &[u8]) -> Option<Frame<'_>>
         return None;
     }
     let (digest, rest) = rest.split_at(LINK_LEN);
-    Some(Frame { body, digest, rest })
+    Some(FramedBody { body, digest, rest })
 }
 
 // Whether the digest of a frame is the link after its body.
-fn is_linked(link: &[u8], frame: &Frame<'_>) -> bool
+fn is_linked(link: &[u8], frame: &FramedBody<'_>) -> bool
     requires { IsBody frame.now.body.now }
     ensures { IsTrue result ↔ (frame.now.digest.now ≡ next_link link.now frame.now.body.now) }
 {
@@ -141,10 +141,10 @@ pub(crate) fn is_same(bytes: &[u8], others: &[u8]) -> bool
 }
 
 // The entry at the start, as its frame.
-pub(crate) fn entry_at<'a>(link: &[u8], bytes: &'a [u8]) -> Option<Frame<'a>>
+pub(crate) fn entry_at<'a>(link: &[u8], bytes: &'a [u8]) -> Option<FramedBody<'a>>
     ensures some { IfSome result (λ it. IsBody it.body.now ×
         (it.digest.now ≡ next_link link.now it.body.now) ×
-        (bytes.now ≡ entry link.now it.body.now ++ it.rest.now)) }
+        (bytes.now ≡ log_entry link.now it.body.now ++ it.rest.now)) }
     ensures count { IfSome result (λ it. length it.digest.now ≡ 32) }
     ensures shorter { IfSome result (λ it. length it.rest.now < length bytes.now) }
     ensures none { IfNone result (HasNoEntry link.now bytes.now) }
@@ -185,7 +185,7 @@ fn after_body(bytes: &[u8]) -> &[u8]
 
 // Whether an entry goes on from the body at the start, whatever digest that has.
 fn goes_on(link: &[u8], rest: &[u8]) -> bool
-    ensures { IsTrue result ↔ GoesOn link.now rest.now }
+    ensures { IsTrue result ↔ IsFollowed link.now rest.now }
 {
     let Some(frame) = frame_at(rest) else {
         return false;

@@ -2,14 +2,14 @@
 
 ghost use Rattle.std.specs.Prelude.{IfOk, IfSome, List};
 ghost use Rattle.publication_log.specs.Publications.{Published};
-ghost use Rattle.publication_log.specs.Opened.{IsOpened, IsRead};
+ghost use Rattle.publication_log.specs.Opened.{IsOpenedLog, IsReadLog};
 
 use crate::entries::frame_at;
 use crate::header::{LOG_MARK, LogHeader};
-use crate::log::{Disk, DiskFailed, Log};
+use crate::log::{AppendDisk, Log, LogDiskFailed};
 use crate::opened::{OpenedLog, ReadLog};
-use crate::reading::{BadLog, Found, ReadFault, read_log};
-use safe_files::{Bytes, FileSystem, ReplaceFault, folder_of, remove_beside, replace_file};
+use crate::reading::{BadLog, Found, LogReadFault, read_log};
+use safe_files::{BytesInMemory, FileSystem, ReplaceFault, folder_of, remove_beside, replace_file};
 use std::fs;
 use std::fs::{File, OpenFile, OpenOptions};
 use std::io::{ErrorKind, Read, Write};
@@ -32,11 +32,11 @@ pub enum OpenFault {
     Memory,
 }
 
-impl From<ReadFault> for OpenFault {
-    fn from(fault: ReadFault) -> Self {
+impl From<LogReadFault> for OpenFault {
+    fn from(fault: LogReadFault) -> Self {
         match fault {
-            ReadFault::Bad(cause) => OpenFault::Bad(cause),
-            ReadFault::Memory => OpenFault::Memory,
+            LogReadFault::Bad(cause) => OpenFault::Bad(cause),
+            LogReadFault::Memory => OpenFault::Memory,
         }
     }
 }
@@ -47,25 +47,25 @@ pub struct LogFile<F = File> {
     file: F,
 }
 
-impl<F: Write + OpenFile> Disk for LogFile<F> {
-    fn write(&mut self, bytes: &[u8]) -> Result<(), DiskFailed> {
+impl<F: Write + OpenFile> AppendDisk for LogFile<F> {
+    fn write(&mut self, bytes: &[u8]) -> Result<(), LogDiskFailed> {
         match self.file.write_all(bytes) {
             Ok(()) => Ok(()),
-            Err(_) => Err(DiskFailed),
+            Err(_) => Err(LogDiskFailed),
         }
     }
 
-    fn sync(&mut self) -> Result<(), DiskFailed> {
+    fn sync(&mut self) -> Result<(), LogDiskFailed> {
         match self.file.sync_data() {
             Ok(()) => Ok(()),
-            Err(_) => Err(DiskFailed),
+            Err(_) => Err(LogDiskFailed),
         }
     }
 
-    fn truncate(&mut self, len: u64) -> Result<(), DiskFailed> {
+    fn truncate(&mut self, len: u64) -> Result<(), LogDiskFailed> {
         match self.file.set_len(len) {
             Ok(()) => Ok(()),
-            Err(_) => Err(DiskFailed),
+            Err(_) => Err(LogDiskFailed),
         }
     }
 }
@@ -87,7 +87,7 @@ pub fn open_log<R: FileSystem>(
     name: &str,
     header: &LogHeader,
 ) -> Result<OpenedLog<R::File>, OpenFault>
-    ensures { IfOk result (λ opened. (ps : List Published) × IsOpened header.now ps opened) }
+    ensures { IfOk result (λ opened. (ps : List Published) × IsOpenedLog header.now ps opened) }
 {
     let Ok(prefix) = header.to_bytes(rt.alloc()) else {
         return Err(OpenFault::Memory);
@@ -123,7 +123,7 @@ pub fn read_log_file<R: FileSystem>(
     header: &LogHeader,
 ) -> Result<Option<ReadLog>, OpenFault>
     ensures { IfOk result (λ it. IfSome it (λ read.
-        (ps : List Published) × IsRead header.now ps read)) }
+        (ps : List Published) × IsReadLog header.now ps read)) }
 {
     match fs::symlink_metadata(rt, name) {
         Ok(there) if there.is_file() => {}
@@ -163,7 +163,7 @@ fn make_missing<R: FileSystem>(rt: &R, name: &str, prefix: &[u8]) -> Result<(), 
     match fs::symlink_metadata(rt, name) {
         Ok(there) if there.is_file() => Ok(()),
         Err(fault) if fault.kind() == ErrorKind::NotFound => {
-            match replace_file(rt, name, &Bytes(prefix)) {
+            match replace_file(rt, name, &BytesInMemory(prefix)) {
                 Ok(()) => Ok(()),
                 Err(ReplaceFault::Memory) => Err(OpenFault::Memory),
                 Err(_) => Err(OpenFault::File),

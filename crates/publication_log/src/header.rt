@@ -1,7 +1,7 @@
 //! What a log begins with, and its name.
 
 ghost use Rattle.std.specs.Prelude.{◌≡◌, IfOk, string_bytes};
-ghost use Rattle.publication_log.specs.Logs.{header_bytes, log_name};
+ghost use Rattle.publication_log.specs.Logs.{log_header_bytes, log_name};
 
 use std::alloc::{AllocError, Global};
 
@@ -30,9 +30,9 @@ impl LogHeader {
     /// # Errors
     ///
     /// `AllocError` when memory was refused.
-    #[tactic(auto, unfolding(crate::specs::Logs::header_bytes, crate::specs::Publications::number_bytes))]
+    #[tactic(auto, unfolding(crate::specs::Logs::log_header_bytes, crate::specs::Publications::log_number_bytes))]
     pub fn to_bytes(&self, alloc: Global) -> Result<Vec<u8>, AllocError>
-        ensures { IfOk result (λ bytes. bytes.items ≡ header_bytes self.now) }
+        ensures { IfOk result (λ bytes. bytes.items ≡ log_header_bytes self.now) }
     {
         let mut bytes = Vec::new(alloc);
         bytes.extend_from_slice(b"PIRLOG01")?;

@@ -13,7 +13,7 @@ ghost use Rattle.publication_log.specs.Crashes.{
 };
 ghost use Rattle.publication_log.specs.Laws.{
   TornPrefix,
-  OneVerdict,
+  OneLogVerdict,
   OneEncoding,
   RefusedIsNone,
   FoundIsEnd,
@@ -77,7 +77,7 @@ pub fn torn_prefix()
 
 /// No bytes have two verdicts if one of them is that they are a good log.
 pub fn one_verdict()
-    ensures { OneVerdict }
+    ensures { OneLogVerdict }
 {}
 
 /// No two publications have the same bytes.

@@ -16,8 +16,9 @@ ghost use Rattle.std.specs.Prelude.{
   OnErr,
   length,
 };
-ghost use Rattle.publication_log.specs.Entries.{entry, next_link};
-ghost use Rattle.publication_log.specs.Steps.{Step, write_step, sync_step, truncate_step, Appends};
+ghost use Rattle.publication_log.specs.Entries.{log_entry, next_link};
+ghost use Rattle.publication_log.specs.Steps.{LogStep, write_step, log_sync_step, truncate_step};
+ghost use Rattle.publication_log.specs.Steps.{AppendsToLog};
 ghost use Rattle.publication_log.specs.Steps.{Cuts, Recovers, is_torn_after, is_torn_after_cut};
 ghost use Rattle.publication_log.specs.Opened.{end_of};
 
@@ -30,23 +31,23 @@ use thiserror::Error;
 /// A step of the disk failed.
 #[derive(Clone, Copy, Debug, PartialEq, Eq, Error)]
 #[error("a step of the disk failed")]
-pub struct DiskFailed;
+pub struct LogDiskFailed;
 
 /// A file to whose end is written. What each call did is known from the call alone.
-pub trait Disk {
+pub trait AppendDisk {
     /// Relates the disk before a step, the step, and the disk after it.
-    ghost does: { Self → Step → Self → Type 0 } = { λ _ _ _. ⊤ };
+    ghost does: { Self → LogStep → Self → Type 0 } = { λ _ _ _. ⊤ };
 
     /// Writes these bytes at the end.
-    fn write(&mut self, bytes: &[u8]) -> Result<(), DiskFailed>
+    fn write(&mut self, bytes: &[u8]) -> Result<(), LogDiskFailed>
         ensures did { does self.old (write_step bytes.now result) self.new };
 
     /// Sends all bytes and the file's length to the device.
-    fn sync(&mut self) -> Result<(), DiskFailed>
-        ensures did { does self.old (sync_step result) self.new };
+    fn sync(&mut self) -> Result<(), LogDiskFailed>
+        ensures did { does self.old (log_sync_step result) self.new };
 
     /// Cuts off what is after so many bytes.
-    fn truncate(&mut self, len: u64) -> Result<(), DiskFailed>
+    fn truncate(&mut self, len: u64) -> Result<(), LogDiskFailed>
         ensures did { does self.old (truncate_step len result) self.new };
 }
 
@@ -104,7 +105,7 @@ pub struct LogEnd {
 
 /// A log to which publications are appended.
 #[derive(Drop)]
-pub struct Log<D: Disk> {
+pub struct Log<D: AppendDisk> {
     /// The file.
     pub disk: D,
     /// The link of the last entry, or of the header if there is none.
@@ -117,7 +118,7 @@ pub struct Log<D: Disk> {
     pub is_torn: bool,
 }
 
-impl<D: Disk + Drop> Log<D> {
+impl<D: AppendDisk + Drop> Log<D> {
     /// The log that was found in a file of `all` bytes. What is after the bytes found is a torn
     /// end, and is cut off.
     ///
@@ -147,7 +148,7 @@ impl<D: Disk + Drop> Log<D> {
     }
 }
 
-impl<D: Disk> Log<D> {
+impl<D: AppendDisk> Log<D> {
     /// Where it ends.
     pub fn end(&self) -> LogEnd
         ensures { result ≡ end_of self.now }
@@ -173,19 +174,19 @@ impl<D: Disk> Log<D> {
         publication: &PublicationBuilder,
     ) -> Result<(), AppendFault>
         requires { publication.now.version ≡ self.old.version + 1 }
-        ensures steps { Appends D.does (entry self.old.link publication.now.body.items)
+        ensures steps { AppendsToLog D.does (log_entry self.old.link publication.now.body.items)
             self.old.disk result self.new.disk }
         ensures link { OnOk result
             (self.new.link ≡ next_link self.old.link publication.now.body.items) }
         ensures version { OnOk result (self.new.version ≡ publication.now.version) }
         ensures len { OnOk result (self.new.len ≡ self.old.len +
-            length (entry self.old.link publication.now.body.items)) }
+            length (log_entry self.old.link publication.now.body.items)) }
         ensures kept { OnErr result ((self.new.link ≡ self.old.link) ×
             (self.new.version ≡ self.old.version) × (self.new.len ≡ self.old.len)) }
         ensures torn { self.new.is_torn ≡ is_torn_after self.old.is_torn result }
         ensures uncut { (result ≡ Err AppendFault.Torn) ↔ (self.old.is_torn ≡ true) }
         ensures full { result ≡ Err AppendFault.Full → 2 ^ 64 ≤ self.old.len +
-            length (entry self.old.link publication.now.body.items) }
+            length (log_entry self.old.link publication.now.body.items) }
     {
         if self.is_torn {
             return Err(AppendFault::Torn);

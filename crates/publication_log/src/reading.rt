@@ -33,7 +33,7 @@ ghost use Rattle.publication_log.specs.Logs.{
   AreNext,
   AreRead,
   IsFound,
-  IsNext,
+  IsNextEntry,
   HasCause,
   StopsBy,
 };
@@ -64,7 +64,7 @@ pub enum BadLog {
 
 /// Why a log was not read.
 #[derive(Clone, Copy, Debug, PartialEq, Eq, Error)]
-pub enum ReadFault {
+pub enum LogReadFault {
     /// The bytes are no good log of the snapshot.
     #[error("bad log: {0}")]
     Bad(BadLog),
@@ -73,23 +73,23 @@ pub enum ReadFault {
     Memory,
 }
 
-impl From<AllocError> for ReadFault {
-    ghost use Rattle.publication_log.specs.declared.reading.ReadFault.TheVariants.{Memory};
+impl From<AllocError> for LogReadFault {
+    ghost use Rattle.publication_log.specs.declared.reading.LogReadFault.TheVariants.{Memory};
 
     ghost from_gives = { λ _ fault. fault ≡ Memory };
 
     fn from(_refused: AllocError) -> Self {
-        ReadFault::Memory
+        LogReadFault::Memory
     }
 }
 
-impl From<BadLog> for ReadFault {
-    ghost use Rattle.publication_log.specs.declared.reading.ReadFault.TheVariants.{Bad};
+impl From<BadLog> for LogReadFault {
+    ghost use Rattle.publication_log.specs.declared.reading.LogReadFault.TheVariants.{Bad};
 
     ghost from_gives = { λ cause fault. fault ≡ Bad cause };
 
     fn from(cause: BadLog) -> Self {
-        ReadFault::Bad(cause)
+        LogReadFault::Bad(cause)
     }
 }
 
@@ -203,7 +203,7 @@ fn is_next(version: u64, other: u64) -> bool
 // log.
 fn next_at<'a>(link: &[u8], version: u64, rest: &'a [u8]) -> Result<Option<Next<'a>>, BadLog>
     ensures some { IfOk result (λ found. IfSome found (λ it. (p : Published) ×
-        IsNext link.now version rest.now p it)) }
+        IsNextEntry link.now version rest.now p it)) }
     ensures none { IfOk result (λ found. IfNone found (IsTorn link.now rest.now)) }
     ensures bad { IfErr result (λ cause. StopsBy link.now version cause rest.now) }
 {
@@ -281,15 +281,15 @@ fn after_header<'a>(header: &[u8], bytes: &'a [u8]) -> Option<&'a [u8]>
 /// # Errors
 ///
 /// `Bad` with what is wrong; `Memory`.
-pub fn read_log(alloc: Global, header: &LogHeader, bytes: &[u8]) -> Result<Found, ReadFault>
+pub fn read_log(alloc: Global, header: &LogHeader, bytes: &[u8]) -> Result<Found, LogReadFault>
     ensures found { IfOk result (λ found. (ps : List Published) ×
         IsFound header.now bytes.now ps found) }
-    ensures bad { (cause : BadLog) → result ≡ Err (ReadFault.Bad cause) →
+    ensures bad { (cause : BadLog) → result ≡ Err (LogReadFault.Bad cause) →
         HasCause header.now cause bytes.now }
 {
     let prefix = header.to_bytes(alloc)?;
     let Some(rest) = after_header(&prefix, bytes) else {
-        return Err(ReadFault::Bad(BadLog::OtherSnapshot));
+        return Err(LogReadFault::Bad(BadLog::OtherSnapshot));
     };
     let start = bytes.len() - rest.len();
     let ends = read_entries(&link_of(&prefix), header.version, rest)?;

@@ -2,7 +2,7 @@
 
 ghost use Rattle.std.specs.Prelude.{◌≡◌, ◌++◌, ℕ, List, IfOk, OnOk};
 ghost use Rattle.publication_log.specs.Publications.{Published};
-ghost use Rattle.publication_log.specs.Entries.{chain_bytes, entry, next_link, IsBody};
+ghost use Rattle.publication_log.specs.Entries.{chain_bytes, log_entry, next_link, IsBody};
 ghost use Rattle.publication_log.specs.Logs.{AreNext, bodies_of, log_bytes};
 
 use crate::entries::{LINK_LEN, frame_at, head_of, link_after};
@@ -44,7 +44,7 @@ fn push_entry(
     body: &[u8],
 ) -> Result<[u8; LINK_LEN], AllocError>
     requires { IsBody body.now }
-    ensures added { OnOk result (bytes.new.items ≡ bytes.old.items ++ entry link.now body.now) }
+    ensures added { OnOk result (bytes.new.items ≡ bytes.old.items ++ log_entry link.now body.now) }
     ensures link { IfOk result (λ next. next ≡ next_link link.now body.now) }
 {
     let next = link_after(link, body);

@@ -4,9 +4,10 @@ use Rattle.std.specs.Prelude.{nat_lt}
 use Rattle.std.proofs.lemmas.List.{length-set, length-append}
 use Rattle.publication_log.specs.Publications.{Placed, Published}
 use Rattle.publication_log.specs.Logs.{AreNext}
-use Rattle.version_store.specs.Histories.{History, Change, Edited, Appended, current_version, history_after, published}
+use Rattle.version_store.specs.Histories.{History, StoreChange, Edited, Appended, current_version, history_after, published}
 use Rattle.log_replay.specs.Replays.{count_after, edit_or_append, edits_and_appends, history_replayed, history_replayed_all}
-use Rattle.publication_push.specs.Orders.{Ordered, Edits, Appends, Publishes, done_version, change_order, change_orders, count_after_all, orders_of}
+use Rattle.log_replay.specs.Replays.{count_after_all}
+use Rattle.publication_push.specs.Orders.{Ordered, Edits, Appends, Publishes, done_version, change_order, change_orders, orders_of}
 use Rattle.publication_push.specs.Laws.{done_versions, PushedIsReplayed, DonesNameTheLog, PushesAddUp, SessionIsReplayed}
 use Rattle.publication_push.proofs.Served.{after_order, after_orders, named_version, named_versions, all_served, session_served}
 
@@ -23,7 +24,7 @@ count_changed h c = by_place (nat_lt c.place (length h.draft))
     by_place true = length-set h.draft c.place c.bytes
     by_place false = length-append h.draft (c.bytes ∷ [])
 
-history_changed : (count : ℕ) (c : Placed) (more : List Change) (h : History) →
+history_changed : (count : ℕ) (c : Placed) (more : List StoreChange) (h : History) →
     history_after (edit_or_append count c ∷ more) h ≡ history_after more (changed count c h)
 history_changed count c more h = by_place (nat_lt c.place count)
   where

@@ -8,7 +8,7 @@ use Rattle.publication_log.specs.Entries.{chain_bytes, next_link}
 use Rattle.publication_log.specs.Logs.{bodies_of}
 use Rattle.log_replay.specs.Replays.{count_after}
 use Rattle.publication_push.specs.declared.orders.Orders.{Orders}
-use Rattle.publication_push.specs.Orders.{Ordered, change_order, orders_of, AreLeft, AreEntries, HasOrders, begun_orders}
+use Rattle.publication_push.specs.Orders.{Ordered, change_order, orders_of, AreLeft, AreEntriesOf, HasOrders, begun_orders}
 
 -- a change by its place and its bytes
 abbrev placed : ℕ → List ℕ → Placed
@@ -35,7 +35,7 @@ change_first count version bytes (c ∷ cs) ps place first rest left some none =
 
 -- the order of the first change was handed out, and the orders after it are left
 pub change_given : (count version : ℕ) (c : Placed) (changes : Changes) (after : Publications) (cs : List Placed) (ps : List Published) (o : Ordered) (new : Orders) →
-    BeginsWith count version c.place c.bytes changes.rest.now cs ps → AreEntries after.rest.now ps → o ≡ change_order count c →
+    BeginsWith count version c.place c.bytes changes.rest.now cs ps → AreEntriesOf after.rest.now ps → o ≡ change_order count c →
     new ≡ record { count = count_after count c; begun = Some (record { version = version; changes = changes }); rest = after } →
     (others : List Ordered) × HasOrders new others × (begun_orders count version cs ps ≡ o ∷ others)
 change_given count version c changes after cs ps o new first entries order e =
@@ -56,10 +56,10 @@ pub record PublishesFirst (count : ℕ) (publication : Publication) (rest : List
   pub changes : List Placed
   pub others : List Published
   pub changes_left : AreLeft publication.changes.rest.now changes
-  pub others_left : AreEntries rest others
+  pub others_left : AreEntriesOf rest others
   pub orders : orders_of count ps ≡ begun_orders count publication.version changes others
 
-pub publication_first : (count : ℕ) (bytes : List ℕ) (ps : List Published) (publication : Publication) (rest : List ℕ) → AreEntries bytes ps →
+pub publication_first : (count : ℕ) (bytes : List ℕ) (ps : List Published) (publication : Publication) (rest : List ℕ) → AreEntriesOf bytes ps →
     ((link : List ℕ) (p : Published) (others : List Published) → IsPublished p → bytes ≡ chain_bytes link (bodies_of (p ∷ others)) →
     (publication.version ≡ p.version) × (publication.changes.rest.now ≡ changes_bytes p.changes)
     × (rest ≡ chain_bytes (next_link link (body_bytes p)) (bodies_of others))) →
@@ -77,7 +77,7 @@ publication_first count bytes (p ∷ ps) publication rest left some none =
 
 -- what is given of a publication that is begun
 abbrev pub Gives : ℕ → Publication → List ℕ → Ordered → Orders → Type 0
-Gives count publication rest o new = (cs : List Placed) (ps : List Published) → AreLeft publication.changes.rest.now cs → AreEntries rest ps →
+Gives count publication rest o new = (cs : List Placed) (ps : List Published) → AreLeft publication.changes.rest.now cs → AreEntriesOf rest ps →
     (others : List Ordered) × HasOrders new others × (begun_orders count publication.version cs ps ≡ o ∷ others)
 
 -- the first order of the first publication was handed out, and the orders after it are left
@@ -89,7 +89,7 @@ publication_given count publication rest ps left o new e first gives =
     (given.0, e ∙ first.orders ∙ given.2, given.1)
 
 -- no publication is left
-pub no_publication : (bytes : List ℕ) (ps : List Published) → AreEntries bytes ps →
+pub no_publication : (bytes : List ℕ) (ps : List Published) → AreEntriesOf bytes ps →
     ((link : List ℕ) (p : Published) (others : List Published) → IsPublished p → bytes ≡ chain_bytes link (bodies_of (p ∷ others)) → ⊥) → ps ≡ []
 no_publication bytes [] left none = refl
 no_publication bytes (p ∷ ps) left none = absurd (none left.link p ps left.each.0 left.bytes_are)

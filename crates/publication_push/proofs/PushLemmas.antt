@@ -14,7 +14,7 @@ use Rattle.publication_push.specs.declared.orders.Orders.{Orders}
 use Rattle.publication_push.specs.declared.push.PushStep.{PushStep}
 use Rattle.publication_push.specs.declared.push.PushStep.TheVariants.{Waits}
 use Rattle.publication_push.specs.Orders.{Ordered, Edits, Appends, Publishes, change_order, change_orders, AreOrders, HasOrders}
-use Rattle.publication_push.specs.Pushes.{Pushing, order_bytes, IsUnsent, IsNextSent, GoesOn, Takes, TakesFirst, ComesOf, Answers}
+use Rattle.publication_push.specs.Pushes.{Pushing, order_bytes, IsUnsent, IsNextSent, SendsNext, Takes, TakesFirst, ComesOf, OnlyAnswers}
 
 -- ---- the bytes of an order are those of a record
 
@@ -52,9 +52,9 @@ short_orders count (Some p) rest o others (cs, ps, left, entries, e) = first_sho
 
 -- an order that was not sent is one that the client refused
 pub unsent_ends : (orders : Orders) (client : Client) (awaited : ℕ) (new : Pushing) (left : List Ordered) (o : Ordered) (others : List Ordered) (why : PushFault) →
-    HasOrders orders left → left ≡ o ∷ others → IsUnsent client o why new.client → new.client.reader ≡ client.reader → GoesOn client awaited left (Err why) new
+    HasOrders orders left → left ≡ o ∷ others → IsUnsent client o why new.client → new.client.reader ≡ client.reader → SendsNext client awaited left (Err why) new
 unsent_ends orders client awaited new left o others why has e unsent reader =
-    let P : List Ordered → Type 0 = λ os. GoesOn client awaited os (Err why) new in
+    let P : List Ordered → Type 0 = λ os. SendsNext client awaited os (Err why) new in
     subst P (sym e) (by_cause why unsent, reader)
   where
     short : length (order_bytes o) ≤ 65535
@@ -71,16 +71,16 @@ unsent_ends orders client awaited new left o others why has e unsent reader =
 -- ---- what comes of replies
 
 pub awaited_done : (old new : Pushing) (left : List Ordered) (named : ℕ) (result : Result PushStep PushFault) → named ≡ old.awaited →
-    GoesOn old.client old.awaited left result new → Takes old left (event.Done named) result new
+    SendsNext old.client old.awaited left result new → Takes old left (event.Done named) result new
 awaited_done old new left named result e goes =
-    let P : Bool → Type 0 = λ b. MatchBool b (GoesOn old.client old.awaited left result new) (Answers old (Err (fault.WrongVersion old.awaited named)) result new) in
+    let P : Bool → Type 0 = λ b. MatchBool b (SendsNext old.client old.awaited left result new) (OnlyAnswers old (Err (fault.WrongVersion old.awaited named)) result new) in
     subst P (sym (eq-eqb named old.awaited e)) goes
 
 pub other_done : (old : Pushing) (left : List Ordered) (named : ℕ) → (named ≡ old.awaited → ⊥) →
     Takes old left (event.Done named) (Err (fault.WrongVersion old.awaited named)) old
 other_done old left named other =
     let wrong : Result PushStep PushFault = Err (fault.WrongVersion old.awaited named) in
-    let P : Bool → Type 0 = λ b. MatchBool b (GoesOn old.client old.awaited left wrong old) (Answers old wrong wrong old) in
+    let P : Bool → Type 0 = λ b. MatchBool b (SendsNext old.client old.awaited left wrong old) (OnlyAnswers old wrong wrong old) in
     subst P (sym (ne_eqb named old.awaited other)) (refl, refl)
 
 pub other_event : (old : Pushing) (left : List Ordered) (e : Event) → ((v : ℕ) → e ≡ event.Welcomed v → ⊥) → ((v : ℕ) → e ≡ event.Done v → ⊥) →

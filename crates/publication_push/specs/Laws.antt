@@ -15,12 +15,12 @@ use Rattle.log_replay.specs.Replays.{history_replayed_all}
 use Rattle.server_core.specs.declared.standing.Standing.{Standing}
 use Rattle.server_core.specs.declared.standing.Standing.TheVariants.{Stranger, Publisher}
 use Rattle.server_core.specs.Serving.{Setting, ServesAll}
-use Rattle.publication_push.specs.Orders.{Ordered, frame_of, done_version, orders_of}
-use Rattle.publication_push.specs.Pushes.{call_of}
+use Rattle.publication_push.specs.Orders.{Ordered, ordered_frame, done_version, orders_of}
+use Rattle.publication_push.specs.Pushes.{ordered_call}
 
 -- the frames of a push
 abbrev pub push_frames : ℕ → List Published → List Frame
-push_frames count ps = map frame_of (orders_of count ps)
+push_frames count ps = map ordered_frame (orders_of count ps)
 
 -- replies of which each is a Done, by the versions that they name
 abbrev pub dones : List ℕ → List Frame
@@ -76,9 +76,9 @@ SessionIsReplayed = (x : Setting) (h : History) (ps : List Published) (versions 
 
 -- the bytes of the call that an order is are those of the order's frame
 abbrev pub CallsSendTheirFrames : Type 0
-CallsSendTheirFrames = (old new : ClientState) (o : Ordered) (bytes : List ℕ) → Accepts old (call_of o) new bytes → bytes ≡ encoding (frame_of o)
+CallsSendTheirFrames = (old new : ClientState) (o : Ordered) (bytes : List ℕ) → Accepts old (ordered_call o) new bytes → bytes ≡ encoding (ordered_frame o)
 
 -- a client that made the call of an order reports nothing but a Done as a Done, and its version
 abbrev pub DonesAreReplies : Type 0
 DonesAreReplies = (c : ClientState) (o : Ordered) (reply : Frame) (version : ℕ) →
-    (reaction_to_reply (state_after_call (call_of o) c) reply).reaction ≡ Reports (event.Done version) → reply ≡ Done version
+    (reaction_to_reply (state_after_call (ordered_call o) c) reply).reaction ≡ Reports (event.Done version) → reply ≡ Done version

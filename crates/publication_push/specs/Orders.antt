@@ -7,7 +7,7 @@ use Rattle.publication_log.specs.declared.changes.Publication.{Publication}
 use Rattle.publication_log.specs.Publications.{Placed, Published, changes_bytes, AreChanges}
 use Rattle.publication_log.specs.Entries.{chain_bytes}
 use Rattle.publication_log.specs.Logs.{bodies_of, AreNext}
-use Rattle.log_replay.specs.Replays.{count_after}
+use Rattle.log_replay.specs.Replays.{count_after, count_after_all}
 use Rattle.publication_push.specs.declared.orders.Order.{Order}
 use Rattle.publication_push.specs.declared.orders.Order.TheVariants as order
 use Rattle.publication_push.specs.declared.orders.Orders.{Orders}
@@ -26,10 +26,10 @@ ordered_of (order.Append bytes) = Appends bytes.now
 ordered_of (order.Publish version) = Publishes version
 
 -- its frame
-abbrev pub frame_of : Ordered → Frame
-frame_of (Edits place bytes) = frame.Edit place bytes
-frame_of (Appends bytes) = frame.Append bytes
-frame_of (Publishes version) = frame.Publish
+abbrev pub ordered_frame : Ordered → Frame
+ordered_frame (Edits place bytes) = frame.Edit place bytes
+ordered_frame (Appends bytes) = frame.Append bytes
+ordered_frame (Publishes version) = frame.Publish
 
 -- the version that the Done to it is to name, if the server is at this one before: an edit and an
 -- append leave the version
@@ -50,11 +50,6 @@ abbrev pub change_orders : ℕ → List Placed → List Ordered
 change_orders count [] = []
 change_orders count (c ∷ cs) = change_order count c ∷ change_orders (count_after count c) cs
 
--- how many records there are after changes
-abbrev pub count_after_all : ℕ → List Placed → ℕ
-count_after_all count [] = count
-count_after_all count (c ∷ cs) = count_after_all (count_after count c) cs
-
 -- what a server of so many records that lacks these publications is asked for: of each its changes,
 -- and then that they become its version
 abbrev pub orders_of : ℕ → List Published → List Ordered
@@ -64,7 +59,7 @@ orders_of count (p ∷ ps) = change_orders count p.changes ++ (Publishes p.versi
 -- ---- orders that are handed out one after another
 
 -- bytes that are the entries of publications whose versions follow one another
-pub record AreEntries (bytes : List ℕ) (ps : List Published) : Type 0 where
+pub record AreEntriesOf (bytes : List ℕ) (ps : List Published) : Type 0 where
   pub link : List ℕ
   pub version : ℕ
   pub each : AreNext version ps
@@ -82,9 +77,9 @@ begun_orders count version cs ps = change_orders count cs ++ (Publishes version 
 
 -- these orders are left, by the publication that is begun, if one is, and by the bytes after it
 abbrev pub AreOrders : ℕ → Option Publication → List ℕ → List Ordered → Type 0
-AreOrders count None rest left = (ps : List Published) × AreEntries rest ps × (left ≡ orders_of count ps)
+AreOrders count None rest left = (ps : List Published) × AreEntriesOf rest ps × (left ≡ orders_of count ps)
 AreOrders count (Some p) rest left =
-    (cs : List Placed) × (ps : List Published) × AreLeft p.changes.rest.now cs × AreEntries rest ps × (left ≡ begun_orders count p.version cs ps)
+    (cs : List Placed) × (ps : List Published) × AreLeft p.changes.rest.now cs × AreEntriesOf rest ps × (left ≡ begun_orders count p.version cs ps)
 
 -- these orders are left
 abbrev pub HasOrders : Orders → List Ordered → Type 0

@@ -23,10 +23,10 @@ pub record Pushing : Type 0 where
   pub awaited : ℕ
 
 -- the call that asks a server for this
-abbrev pub call_of : Ordered → ClientCall
-call_of (Edits place bytes) = Edit place bytes
-call_of (Appends bytes) = Append bytes
-call_of (Publishes version) = Publish
+abbrev pub ordered_call : Ordered → ClientCall
+ordered_call (Edits place bytes) = Edit place bytes
+ordered_call (Appends bytes) = Append bytes
+ordered_call (Publishes version) = Publish
 
 -- the bytes of an order's record
 abbrev pub order_bytes : Ordered → List ℕ
@@ -36,7 +36,7 @@ order_bytes (Publishes version) = []
 
 -- why an order was not sent: the client refused the call, or its record is not one of a log
 abbrev pub IsUnsent : Client → Ordered → PushFault → Client → Type 0
-IsUnsent client o (fault.Call why) new = Refuses client.state (call_of o) why new.state
+IsUnsent client o (fault.Call why) new = Refuses client.state (ordered_call o) why new.state
 IsUnsent client o fault.BadLog new = (new ≡ client) × (65535 < length (order_bytes o))
 IsUnsent client o _ new = ⊥
 
@@ -44,21 +44,21 @@ IsUnsent client o _ new = ⊥
 -- or the client refused the call
 abbrev pub IsNextSent : Client → ℕ → Ordered → List Ordered → Result PushStep PushFault → Pushing → Type 0
 IsNextSent client awaited o others (Ok (Sends bytes)) new =
-    Accepts client.state (call_of o) new.client.state bytes.items × HasOrders new.orders others × (new.awaited ≡ done_version awaited o)
-IsNextSent client awaited o others (Err (fault.Call why)) new = Refuses client.state (call_of o) why new.client.state
+    Accepts client.state (ordered_call o) new.client.state bytes.items × HasOrders new.orders others × (new.awaited ≡ done_version awaited o)
+IsNextSent client awaited o others (Err (fault.Call why)) new = Refuses client.state (ordered_call o) why new.client.state
 IsNextSent client awaited o others _ new = ⊥
 
 -- the first of the orders that were left is sent by a client, after this version; or none was left,
 -- and all is pushed
-abbrev pub GoesOn : Client → ℕ → List Ordered → Result PushStep PushFault → Pushing → Type 0
-GoesOn client awaited [] result new = (result ≡ Ok (Pushed awaited)) × (new.client ≡ client)
-GoesOn client awaited (o ∷ others) result new = IsNextSent client awaited o others result new × (new.client.reader ≡ client.reader)
+abbrev pub SendsNext : Client → ℕ → List Ordered → Result PushStep PushFault → Pushing → Type 0
+SendsNext client awaited [] result new = (result ≡ Ok (Pushed awaited)) × (new.client ≡ client)
+SendsNext client awaited (o ∷ others) result new = IsNextSent client awaited o others result new × (new.client.reader ≡ client.reader)
 
 -- what begins a push of these publications: their first order, by the count and the version that
 -- the server reported
-abbrev pub Begins : Client → Option ServerInfo → List Published → Result PushStep PushFault → Pushing → Type 0
-Begins client None ps result new = result ≡ Err (fault.Call NotReady)
-Begins client (Some known) ps result new = GoesOn client known.version (orders_of known.count ps) result new
+abbrev pub BeginsPush : Client → Option ServerInfo → List Published → Result PushStep PushFault → Pushing → Type 0
+BeginsPush client None ps result new = result ≡ Err (fault.Call NotReady)
+BeginsPush client (Some known) ps result new = SendsNext client known.version (orders_of known.count ps) result new
 
 -- what the server reported when it took the greeting
 abbrev pub greeted : Option ServerInfo → Result PushStep PushFault
@@ -66,26 +66,26 @@ greeted None = Err fault.NotDone
 greeted (Some known) = Ok (Greeted known)
 
 -- an answer after which nothing else has changed
-abbrev pub Answers : Pushing → Result PushStep PushFault → Result PushStep PushFault → Pushing → Type 0
-Answers old answer result new = (result ≡ answer) × (new ≡ old)
+abbrev pub OnlyAnswers : Pushing → Result PushStep PushFault → Result PushStep PushFault → Pushing → Type 0
+OnlyAnswers old answer result new = (result ≡ answer) × (new ≡ old)
 
 -- what comes of a reply's event: the awaited Done is followed by what is next, and each other one
 -- but the Welcome ends the push
 abbrev pub Takes : Pushing → List Ordered → Event → Result PushStep PushFault → Pushing → Type 0
-Takes old left (Welcomed version) result new = Answers old (greeted old.client.state.known) result new
+Takes old left (Welcomed version) result new = OnlyAnswers old (greeted old.client.state.known) result new
 Takes old left (Done named) result new =
-    MatchBool (named == old.awaited) (GoesOn old.client old.awaited left result new) (Answers old (Err (fault.WrongVersion old.awaited named)) result new)
-Takes old left (Refused code) result new = Answers old (Err (fault.Refused code)) result new
-Takes old left _ result new = Answers old (Err fault.NotDone) result new
+    MatchBool (named == old.awaited) (SendsNext old.client old.awaited left result new) (OnlyAnswers old (Err (fault.WrongVersion old.awaited named)) result new)
+Takes old left (Refused code) result new = OnlyAnswers old (Err (fault.Refused code)) result new
+Takes old left _ result new = OnlyAnswers old (Err fault.NotDone) result new
 
 -- what comes of the first event
 abbrev pub TakesFirst : Pushing → List Ordered → List Event → Result PushStep PushFault → Pushing → Type 0
-TakesFirst old left [] result new = Answers old (Ok Waits) result new
+TakesFirst old left [] result new = OnlyAnswers old (Ok Waits) result new
 TakesFirst old left (event ∷ later) result new = Takes old left event result new
 
 -- what comes of the client's fault, or of the first event if there is no fault
 abbrev pub ComesOf : Pushing → List Ordered → List Event → Option ClientFault → Result PushStep PushFault → Pushing → Type 0
-ComesOf old left events (Some why) result new = Answers old (Err (fault.Client why)) result new
+ComesOf old left events (Some why) result new = OnlyAnswers old (Err (fault.Client why)) result new
 ComesOf old left events None result new = TakesFirst old left events result new
 
 -- a piece of the server's stream, fed to a push of which these orders are left

@@ -6,7 +6,7 @@ ghost use Rattle.publication_log.specs.Entries.{chain_bytes};
 ghost use Rattle.publication_log.specs.Logs.{bodies_of, AreNext};
 ghost use Rattle.log_replay.specs.Replays.{count_after};
 ghost use Rattle.publication_push.specs.Orders.{Ordered, ordered_of, orders_of, placed_of};
-ghost use Rattle.publication_push.specs.Orders.{HasOrders, AreLeft, AreEntries, begun_orders};
+ghost use Rattle.publication_push.specs.Orders.{HasOrders, AreLeft, AreEntriesOf, begun_orders};
 ghost use Rattle.publication_push.specs.Orders.{change_order};
 
 use publication_log::{Change, Publication, Publications};
@@ -78,7 +78,7 @@ impl<'a> Orders<'a> {
     // The next order of a publication, with the changes of it that are left.
     fn next_of(&mut self, publication: Publication<'a>) -> Order<'a>
         ensures { (cs : List Placed) (ps : List Published) →
-            AreLeft publication.entry.changes.rest.now cs → AreEntries self.old.rest.rest.now ps →
+            AreLeft publication.entry.changes.rest.now cs → AreEntriesOf self.old.rest.rest.now ps →
             (others : List Ordered) × HasOrders self.new others ×
             (begun_orders self.old.count publication.entry.version cs ps ≡
             ordered_of result ∷ others) }

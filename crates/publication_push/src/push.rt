@@ -7,13 +7,13 @@ ghost use Rattle.publication_log.specs.Logs.{bodies_of, AreNext};
 ghost use Rattle.client_core.specs.Calls.{ClientCall, Accepts, Refuses};
 ghost use Rattle.publication_push.specs.Orders.{Ordered, ordered_of, done_version, HasOrders};
 ghost use Rattle.publication_push.specs.Pushes.{
-  call_of,
+  ordered_call,
   greeted,
   IsUnsent,
-  GoesOn,
-  Begins,
+  SendsNext,
+  BeginsPush,
   Takes,
-  Answers,
+  OnlyAnswers,
   IsFed,
 };
 
@@ -97,7 +97,7 @@ impl<'a, K: Kernel> Push<'a, K> {
     pub fn begin(&mut self, publications: Publications<'a>) -> Result<PushStep, PushFault>
         ensures { (link : List ℕ) (version : ℕ) (ps : List Published) → AreNext version ps →
             publications.entry.rest.now ≡ chain_bytes link (bodies_of ps) →
-            Begins self.old.client self.old.client.state.known ps result self.new }
+            BeginsPush self.old.client self.old.client.state.known ps result self.new }
     {
         let Some(known) = self.client.known() else {
             return Err(PushFault::Call(CallFault::NotReady));
@@ -170,7 +170,7 @@ impl<'a, K: Kernel> Push<'a, K> {
     // Asks for what is next, or all is done.
     fn go_on(&mut self) -> Result<PushStep, PushFault>
         ensures { (left : List Ordered) → HasOrders self.old.orders left →
-            GoesOn self.old.client self.old.awaited left result self.new }
+            SendsNext self.old.client self.old.awaited left result self.new }
     {
         let Some(order) = self.orders.next() else {
             return Ok(PushStep::Pushed(self.awaited));
@@ -205,8 +205,8 @@ fn done_version(before: u64, order: Order<'_>) -> u64
 
 // Asks a server for this. Gives the bytes to send.
 fn ask<K: Kernel>(client: &mut ClientCore<K>, order: Order<'_>) -> Result<Vec<u8>, PushFault>
-    ensures sent { IfOk result (λ bytes. Accepts client.old.state (call_of (ordered_of order.entry))
-        client.new.state bytes.items) }
+    ensures sent { IfOk result (λ bytes. Accepts client.old.state
+        (ordered_call (ordered_of order.entry)) client.new.state bytes.items) }
     ensures unsent { IfErr result
         (λ why. IsUnsent client.old (ordered_of order.entry) why client.new) }
     ensures reader { client.new.reader ≡ client.old.reader }

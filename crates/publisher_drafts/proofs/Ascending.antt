@@ -5,8 +5,8 @@ use Rattle.std.proofs.lemmas.Bool.{cases_lt, lt-ltb, le-ltb, ltb-true, ltb-false
 use Rattle.std.proofs.lemmas.List.{length-set, length-append, set-set, set_comm, set-append_left}
 use Rattle.std.proofs.Math.Seq.{set-append_seam}
 use Rattle.publication_log.specs.Publications.{Placed}
-use Rattle.log_replay.specs.Replays.{record_changed, records_after, count_after}
-use Rattle.publisher_drafts.specs.Merging.{with_change}
+use Rattle.log_replay.specs.Replays.{record_changed, records_replayed, count_after}
+use Rattle.publisher_drafts.specs.Merging.{merged_change}
 use Rattle.log_replay.proofs.ChangeLemmas.{length_changed}
 
 -- each change has a place above those before it, the first at least this one
@@ -25,12 +25,12 @@ above_from m n le apart = elim (cases_lt n m) [
 ]
 
 -- one more keeps them ascending
-pub ascend_with : (low : ℕ) (c : Placed) (cs : List Placed) → low ≤ c.place → Ascend low cs → Ascend low (with_change c cs)
+pub ascend_with : (low : ℕ) (c : Placed) (cs : List Placed) → low ≤ c.place → Ascend low cs → Ascend low (merged_change c cs)
 ascend_with low c [] at each = (at, tt)
 ascend_with low c (d ∷ ds) at each = by_order (nat_lt c.place d.place) refl (c.place == d.place) refl (λ above. ascend_with (d.place + 1) c ds above each.1)
   where
     by_order : (b : Bool) → nat_lt c.place d.place ≡ b → (e : Bool) → (c.place == d.place) ≡ e →
-        (d.place + 1 ≤ c.place → Ascend (d.place + 1) (with_change c ds)) → Ascend low (cond b (c ∷ d ∷ ds) (cond e (c ∷ ds) (d ∷ with_change c ds)))
+        (d.place + 1 ≤ c.place → Ascend (d.place + 1) (merged_change c ds)) → Ascend low (cond b (c ∷ d ∷ ds) (cond e (c ∷ ds) (d ∷ merged_change c ds)))
     by_order true lt e eq rest = (at, (omega (arith, ltb-true c.place d.place lt), each.1))
     by_order false lt true eq rest = (at, subst (λ (n : ℕ). Ascend (n + 1) ds) (sym (eqb-true c.place d.place eq)) each.1)
     by_order false lt false eq rest = (each.0, rest (above_from c.place d.place (ltb-false c.place d.place lt) (eqb-false c.place d.place eq)))
@@ -45,7 +45,7 @@ grows records c = by_place (nat_lt c.place (length records))
     by_place true = omega (arith, length-set records c.place c.bytes)
     by_place false = omega (arith, length-append records (c.bytes ∷ []))
 
-pub all_grow : (records : List (List ℕ)) (cs : List Placed) → length records ≤ length (records_after records cs)
+pub all_grow : (records : List (List ℕ)) (cs : List Placed) → length records ≤ length (records_replayed records cs)
 all_grow records [] = omega arith
 all_grow records (c ∷ cs) = omega (arith, grows records c, all_grow (record_changed records c) cs)
 
@@ -72,19 +72,19 @@ edit_later_one records i bytes d inside above =
     ]
 
 pub edit_later : (records : List (List ℕ)) (i : ℕ) (bytes : List ℕ) (ds : List Placed) → i < length records → Ascend (i + 1) ds →
-    records_after (slice_set records i bytes) ds ≡ slice_set (records_after records ds) i bytes
+    records_replayed (slice_set records i bytes) ds ≡ slice_set (records_replayed records ds) i bytes
 edit_later records i bytes [] inside each = refl
 edit_later records i bytes (d ∷ ds) inside each =
     let above : i < d.place = omega (arith, each.0) in
-    ap (λ (rs : List (List ℕ)). records_after rs ds) (edit_later_one records i bytes d inside above)
+    ap (λ (rs : List (List ℕ)). records_replayed rs ds) (edit_later_one records i bytes d inside above)
     ∙ edit_later (record_changed records d) i bytes ds (omega (arith, grows records d)) (ascend_from (d.place + 1) (i + 1) ds (omega arith) each.1)
 
 -- an edit before other changes, as a change after them
 pub edit_moved : (records : List (List ℕ)) (c : Placed) (ds : List Placed) → c.place < length records → Ascend (c.place + 1) ds →
-    records_after (slice_set records c.place c.bytes) ds ≡ record_changed (records_after records ds) c
+    records_replayed (slice_set records c.place c.bytes) ds ≡ record_changed (records_replayed records ds) c
 edit_moved records c ds inside each =
     edit_later records c.place c.bytes ds inside each
-    ∙ sym (edit_is (records_after records ds) c (omega (arith, all_grow records ds)))
+    ∙ sym (edit_is (records_replayed records ds) c (omega (arith, all_grow records ds)))
 
 -- a change in place of the one at its place
 same_place : (records : List (List ℕ)) (c d : Placed) → c.place ≡ d.place → d.place ≤ length records →
@@ -102,11 +102,11 @@ same_place records c d at few = elim (cases_lt d.place (length records)) [
 ]
 
 pub moved_same : (records : List (List ℕ)) (c d : Placed) (ds : List Placed) → c.place ≡ d.place → d.place ≤ length records → Ascend (d.place + 1) ds →
-    records_after (record_changed records c) ds ≡ record_changed (records_after (record_changed records d) ds) c
+    records_replayed (record_changed records c) ds ≡ record_changed (records_replayed (record_changed records d) ds) c
 moved_same records c d ds at few each =
     let inside : c.place < length (record_changed records d) = elim (cases_lt d.place (length records)) [
       | inl within ↦ omega (arith, grows records d)
       | inr past ↦ omega (arith, ap (λ (rs : List (List ℕ)). length rs) (append_is records d past), length-append records (d.bytes ∷ []))
     ] in
-    ap (λ (rs : List (List ℕ)). records_after rs ds) (same_place records c d at few)
+    ap (λ (rs : List (List ℕ)). records_replayed rs ds) (same_place records c d at few)
     ∙ edit_moved (record_changed records d) c ds inside (subst (λ (n : ℕ). Ascend (n + 1) ds) (sym at) each)

@@ -4,7 +4,8 @@ use Rattle.std.specs.Prelude.{if◌then◌else◌, ◌&&◌}
 use Rattle.pir_schemes.specs.declared.plan.Plan.{Plan}
 use Rattle.publication_log.specs.Publications.{Published}
 use Rattle.log_replay.specs.Replays.{are_changes_of}
-use Rattle.publisher_drafts.specs.Merging.{are_entries_of, count_after_all}
+use Rattle.log_replay.specs.Replays.{count_after_all}
+use Rattle.publisher_drafts.specs.Merging.{are_entries_of}
 
 pub some_from : (b : Bool) (n m : ℕ) → Some n ≡ (if b then Some m else None) → (b ≡ true) × (n ≡ m)
 some_from true n m e = (refl, cc)

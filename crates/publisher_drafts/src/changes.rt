@@ -3,7 +3,7 @@
 ghost use Rattle.std.specs.Prelude.{◌≡◌, ℕ, List, IfOk, OnOk, OnErr};
 ghost use Rattle.publication_log.specs.Publications.{Placed, AreChanges, changes_bytes};
 ghost use Rattle.publication_log.specs.Builders.{IsMadeOf};
-ghost use Rattle.publisher_drafts.specs.Merging.{changes_in, with_change, merged};
+ghost use Rattle.publisher_drafts.specs.Merging.{changes_of_map, merged_change, merged};
 
 use publication_log::{ChangeFault, Changes, PublicationBuilder};
 use std::alloc::{AllocError, Global};
@@ -18,9 +18,9 @@ pub type ChangeMap = BTreeMap<u32, Vec<u8>>;
 ///
 /// `AllocError` when memory was refused: nothing changes then.
 pub fn put_change(changes: &mut ChangeMap, place: u32, bytes: Vec<u8>) -> Result<(), AllocError>
-    ensures put { OnOk result (changes_in changes.new.entries ≡
-        with_change (record { place = place; bytes = bytes.items })
-        (changes_in changes.old.entries)) }
+    ensures put { OnOk result (changes_of_map changes.new.entries ≡
+        merged_change (record { place = place; bytes = bytes.items })
+        (changes_of_map changes.old.entries)) }
     ensures refused { OnErr result (changes.new.entries ≡ changes.old.entries) }
 {
     match changes.insert(place, bytes) {
@@ -41,7 +41,7 @@ pub fn put_entry(
 ) -> Result<(), AllocError>
     ensures { (low : ℕ) (cs : List Placed) → AreChanges low cs →
         entry.entry.rest.now ≡ changes_bytes cs → OnOk result
-        (changes_in changes.new.entries ≡ merged (changes_in changes.old.entries) cs) }
+        (changes_of_map changes.new.entries ≡ merged (changes_of_map changes.old.entries) cs) }
 {
     let mut left = entry;
     'changes: while let Some((change, rest)) = left.split_first() {
@@ -63,7 +63,7 @@ pub fn publication_of(
     changes: &ChangeMap,
 ) -> Result<PublicationBuilder, ChangeFault>
     ensures made { IfOk result (λ it. IsMadeOf it
-        (record { version = version; changes = changes_in changes.now.entries })) }
+        (record { version = version; changes = changes_of_map changes.now.entries })) }
     ensures version { IfOk result (λ it. it.version ≡ version) }
 {
     let mut builder = PublicationBuilder::new(alloc, version)?;

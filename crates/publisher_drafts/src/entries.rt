@@ -5,7 +5,7 @@ ghost use Rattle.std.specs.Prelude.{if◌then◌else◌, true, false};
 ghost use Rattle.publication_log.specs.Publications.{Published};
 ghost use Rattle.publication_log.specs.Entries.{chain_bytes};
 ghost use Rattle.publication_log.specs.Logs.{AreNext, bodies_of};
-ghost use Rattle.publisher_drafts.specs.Merging.{changes_in, merged_all, are_entries_of};
+ghost use Rattle.publisher_drafts.specs.Merging.{changes_of_map, merged_all, are_entries_of};
 ghost use Rattle.publisher_drafts.specs.Merging.{count_after_entries};
 
 use crate::changes::{ChangeMap, put_entry};
@@ -62,7 +62,7 @@ pub fn merge_entries(
 ) -> Result<Merged, MergeFault>
     ensures merged { (link : List ℕ) (version : ℕ) (ps : List Published) → AreNext version ps →
         entries.entry.rest.now ≡ chain_bytes link (bodies_of ps) → IfOk result (λ it.
-        (changes_in it.changes.entries ≡ merged_all [] ps)
+        (changes_of_map it.changes.entries ≡ merged_all [] ps)
         × (it.count ≡ count_after_entries count ps)) }
     ensures good { (link : List ℕ) (version : ℕ) (ps : List Published) → AreNext version ps →
         entries.entry.rest.now ≡ chain_bytes link (bodies_of ps) →
@@ -109,7 +109,7 @@ fn judge_entries(plan: &Plan, count: usize, entries: Publications<'_>) -> Option
 pub fn merged_of(alloc: Global, entries: Publications<'_>) -> Result<ChangeMap, AllocError>
     ensures { (link : List ℕ) (version : ℕ) (ps : List Published) → AreNext version ps →
         entries.entry.rest.now ≡ chain_bytes link (bodies_of ps) →
-        IfOk result (λ it. changes_in it.entries ≡ merged_all [] ps) }
+        IfOk result (λ it. changes_of_map it.entries ≡ merged_all [] ps) }
 {
     let mut changes = BTreeMap::new(alloc);
     let mut left = entries;

@@ -4,7 +4,7 @@ ghost use Rattle.std.specs.Prelude.{◌≡◌, ◌+◌, ◌&&◌, ℕ, List, if�
 ghost use Rattle.pir_schemes.specs.Plans.{fits};
 ghost use Rattle.publication_log.specs.Publications.{Placed, AreChanges, changes_bytes};
 ghost use Rattle.log_replay.specs.Replays.{are_changes_of, has_place, count_after};
-ghost use Rattle.publisher_drafts.specs.Merging.{count_after_all};
+ghost use Rattle.log_replay.specs.Replays.{count_after_all};
 ghost use Rattle.publisher_drafts.specs.Judging.{edit_verdict, append_verdict, verdict};
 
 use pir_schemes::Plan;

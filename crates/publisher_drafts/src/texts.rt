@@ -1,7 +1,7 @@
 //! What is printed.
 
 ghost use Rattle.std.specs.Prelude.{◌≡◌, IfOk, string_bytes};
-ghost use Rattle.publisher_drafts.specs.Texts.{shown_bytes, changed_text, appended_text};
+ghost use Rattle.publisher_drafts.specs.Texts.{hex_or_dash, changed_text, appended_text};
 
 use std::alloc::{AllocError, Global};
 
@@ -10,9 +10,9 @@ use std::alloc::{AllocError, Global};
 /// # Errors
 ///
 /// `AllocError` when memory was refused.
-#[tactic(auto, unfolding(crate::specs::Texts::shown_bytes))]
+#[tactic(auto, unfolding(crate::specs::Texts::hex_or_dash))]
 pub fn shown_bytes(alloc: Global, bytes: &[u8]) -> Result<String, AllocError>
-    ensures { IfOk result (λ text. string_bytes text ≡ shown_bytes bytes.now) }
+    ensures { IfOk result (λ text. string_bytes text ≡ hex_or_dash bytes.now) }
 {
     if bytes.is_empty() {
         return String::from_str(alloc, "-");

@@ -7,7 +7,7 @@ ghost use Rattle.publication_log.specs.Entries.{chain_bytes};
 ghost use Rattle.publication_log.specs.Logs.{AreNext, bodies_of};
 ghost use Rattle.snapshot_file.specs.Snapshots.{header_of};
 ghost use Rattle.version_store.specs.Openings.{IsSound};
-ghost use Rattle.publisher_drafts.specs.Merging.{changes_in, merged_all, are_entries_of};
+ghost use Rattle.publisher_drafts.specs.Merging.{changes_of_map, merged_all, are_entries_of};
 ghost use Rattle.publisher_drafts.specs.Merging.{count_after_entries};
 ghost use Rattle.publisher_files.specs.Drafts.{draft_header};
 
@@ -15,7 +15,7 @@ use crate::version::FolderVersion;
 use command_words::Failure;
 use pir_schemes::Plan;
 use publication_log::{
-    AppendFault, BadLog, ChangeFault, Disk, Log, LogHeader, OpenFault, PublicationBuilder,
+    AppendDisk, AppendFault, BadLog, ChangeFault, Log, LogHeader, OpenFault, PublicationBuilder,
     Publications, open_log, read_log_file, remove_log,
 };
 use publisher_drafts::{ChangeMap, MergeFault, merge_entries, merged_of, publication_of};
@@ -114,7 +114,7 @@ fn current_draft(
     ensures { (link : List ℕ) (version : ℕ) (ps : List Published) → AreNext version ps →
         entries.entry.rest.now ≡ chain_bytes link (bodies_of ps) → IfOk result (λ it.
         (are_entries_of plan.now count ps ≡ true)
-        × (changes_in it.changes.entries ≡ merged_all [] ps)
+        × (changes_of_map it.changes.entries ≡ merged_all [] ps)
         × (it.count ≡ count_after_entries count ps)) }
 {
     match merge_entries(alloc, plan, count, entries) {
@@ -206,7 +206,7 @@ pub fn publication_after(
 ) -> Result<PublicationBuilder, Failure>
     requires { version + 1 < 2 ^ 64 }
     ensures made { IfOk result (λ it. IsMadeOf it
-        (record { version = version + 1; changes = changes_in changes.now.entries })) }
+        (record { version = version + 1; changes = changes_of_map changes.now.entries })) }
     ensures version { IfOk result (λ it. it.version ≡ version + 1) }
 {
     match publication_of(alloc, version + 1, changes) {
@@ -223,7 +223,7 @@ pub fn publication_after(
 ///
 /// `Write` if it can't be written or sent to the device, `TooLong` if the log has no room for it;
 /// `Memory`.
-pub fn append_to<D: Disk>(
+pub fn append_to<D: AppendDisk>(
     alloc: Global,
     log: &mut Log<D>,
     publication: &PublicationBuilder,

@@ -1,7 +1,7 @@
 //! The folder and the files in it.
 
 ghost use Rattle.std.specs.Prelude.{◌≡◌, IfOk, string_bytes, codes};
-ghost use Rattle.publisher_files.specs.Names.{name_in};
+ghost use Rattle.publisher_drafts.specs.Texts.{name_in};
 
 use command_words::{Failed, Failure};
 use safe_files::{FileSystem, folder_of};

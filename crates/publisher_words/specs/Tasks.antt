@@ -3,7 +3,8 @@ use Rattle.std.specs.Prelude.{◌≡◌, ◌≤◌, ℕ, List, length, codes, So
 use Rattle.clap.specs.declared.parser.matches.Found.{Found}
 use Rattle.clap.specs.Matches.{first_value}
 use Rattle.command_words.specs.Values.{bytes_in}
-use Rattle.server_words.specs.Tasks.{IsNumberGiven, IsNumberOr, IsNumberIf, IsSecretGiven, IsFlagGiven}
+use Rattle.command_words.specs.Given.{IsNumberGiven, IsNumberIfGiven, IsSecretGiven, IsFlagGiven}
+use Rattle.server_words.specs.Tasks.{IsNumberOr}
 use Rattle.publisher_words.specs.declared.command_line.Adding.{Adding}
 use Rattle.publisher_words.specs.declared.command_line.Pushing.{Pushing}
 use Rattle.publisher_words.specs.declared.command_line.Setting.{Setting}
@@ -21,7 +22,7 @@ ReadsInit found beginning =
     (first_value found (codes "dir") ≡ Some beginning.dir.now) × IsNumberOr 1 found (codes "form") beginning.making.form
     × IsFlagGiven found (codes "wide") beginning.making.wide
     × IsNumberGiven found (codes "width") beginning.making.width × IsNumberGiven found (codes "record") beginning.making.record_len
-    × IsNumberGiven found (codes "groups") beginning.making.groups × IsNumberIf found (codes "count") beginning.making.count
+    × IsNumberGiven found (codes "groups") beginning.making.groups × IsNumberIfGiven found (codes "count") beginning.making.count
     × IsSecretGiven found (codes "seed") beginning.making.seed
     × IsSecretGiven found (codes "key") beginning.making.key
 
@@ -39,7 +40,7 @@ ReadsAdd found adding =
 -- what is to be shown, as those of `show` do
 abbrev pub ReadsShow : Found → Showing → Type 0
 ReadsShow found showing =
-    (first_value found (codes "dir") ≡ Some showing.dir.now) × IsNumberIf found (codes "INDEX") showing.index
+    (first_value found (codes "dir") ≡ Some showing.dir.now) × IsNumberIfGiven found (codes "INDEX") showing.index
 
 -- what is to be brought to servers, as those of `push` do, but which servers
 abbrev pub ReadsPush : Found → Pushing → Type 0

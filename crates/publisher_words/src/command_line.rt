@@ -2,7 +2,7 @@
 
 ghost use Rattle.std.specs.Prelude.{◌≡◌, IfOk, Some, codes};
 ghost use Rattle.clap.specs.Matches.{first_value, found_of};
-ghost use Rattle.server_words.specs.Tasks.{IsNumberGiven};
+ghost use Rattle.command_words.specs.Given.{IsNumberGiven};
 ghost use Rattle.publisher_words.specs.Tasks.{IsRecordGiven, ReadsAdd, ReadsPush, ReadsSet};
 ghost use Rattle.publisher_words.specs.Tasks.{ReadsShow};
 

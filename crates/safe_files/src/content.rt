@@ -47,9 +47,9 @@ pub trait Content {
 
 /// Bytes in memory.
 #[derive(Clone, Copy, Debug)]
-pub struct Bytes<'a>(pub &'a [u8]);
+pub struct BytesInMemory<'a>(pub &'a [u8]);
 
-impl Content for Bytes<'_> {
+impl Content for BytesInMemory<'_> {
     ghost bytes = { λ content. content.0.now };
 
     fn write_to<W: Write>(&self, _alloc: Global, writer: &mut W) -> Result<(), ContentFault> {

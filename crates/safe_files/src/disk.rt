@@ -2,7 +2,7 @@
 
 ghost use Rattle.std.specs.Prelude.{◌≡◌, ℕ, List, Option, None, IfOk, ⊤};
 ghost use Rattle.std.specs.Io.KnownBytes.{IsAtEnd};
-ghost use Rattle.safe_files.specs.Steps.{Step, Removes, make_step, sync_step, rename_step};
+ghost use Rattle.safe_files.specs.Steps.{FileStep, Removes, make_step, sync_step, rename_step};
 ghost use Rattle.safe_files.specs.Steps.{sync_folder_step};
 
 use std::io::Write;
@@ -25,7 +25,7 @@ pub trait Disk {
     ghost fresh: { Option (List ℕ) } = { None };
 
     /// Relates the disk before a step, the step, and the disk after it.
-    ghost does: { Self → Step → Self → Type 0 } = { λ _ _ _. ⊤ };
+    ghost does: { Self → FileStep → Self → Type 0 } = { λ _ _ _. ⊤ };
 
     /// Makes a new file beside the old one, with no bytes, under a name that nothing had: no file,
     /// no link, no pipe.

@@ -24,7 +24,7 @@ mod steady;
 mod system;
 
 pub use beside::{MARKED_DIGITS, are_hex_digits, folder_of, remove_beside};
-pub use content::{Bytes, Content, ContentFault};
+pub use content::{BytesInMemory, Content, ContentFault};
 pub use disk::{Disk, DiskFailed};
 pub use laws::{done_is_new, each_moment_is_whole, refused_is_old, settled_is_new};
 pub use locking::{FileLock, LockFault, lock};

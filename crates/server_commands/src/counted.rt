@@ -8,7 +8,9 @@ use crate::making::{BAD_RECORDS, EXISTS, bad_layout, most_bytes, progress_of, to
 use crate::slot_reading::SlotReader;
 use command_words::{Failed, Failure};
 use connection_io::{piece_buffer, read_piece};
-use server_files::{InputFault, InputSize, OwnFile, Unwritten, Watched, failed_at, write_read};
+use server_files::{
+    InputFault, InputSize, OwnFile, Unwritten, WatchedReader, failed_at, write_read,
+};
 use server_words::Making;
 use session_core::Header;
 use std::alloc::Global;
@@ -32,7 +34,7 @@ pub fn make_counted(rt: &HostRuntime, making: &Making<'_>, header: &Header) -> R
     }
     if making.form == 2 {
         let whole = InputSize::Lines(u64::from(header.count));
-        let input = Watched::new(rt.reader(), progress_of(rt, making, whole));
+        let input = WatchedReader::new(rt.reader(), progress_of(rt, making, whole));
         let mut slots = SlotReader::new(rt.alloc(), input, header.record_len)?;
         match make_of_input(rt, making, header, &mut slots) {
             Ok(()) => Ok(header.count),
@@ -40,7 +42,7 @@ pub fn make_counted(rt: &HostRuntime, making: &Making<'_>, header: &Header) -> R
         }
     } else {
         let whole = InputSize::Bytes(header.records_len() as u64);
-        let mut input = Watched::new(rt.reader(), progress_of(rt, making, whole));
+        let mut input = WatchedReader::new(rt.reader(), progress_of(rt, making, whole));
         make_of_input(rt, making, header, &mut input)?;
         Ok(header.count)
     }
@@ -53,7 +55,7 @@ fn no_such_store(rt: &HostRuntime, making: &Making<'_>, header: &Header) -> Fail
     } else {
         most_bytes(making.wide)
     };
-    let mut input = Watched::new(rt.reader(), progress_of(rt, making, InputSize::Unknown));
+    let mut input = WatchedReader::new(rt.reader(), progress_of(rt, making, InputSize::Unknown));
     match rest_of(rt.alloc(), &mut input, most) {
         Ok(Some(_)) => bad_layout(rt.alloc(), header),
         Ok(None) => too_much(rt.alloc(), most),

@@ -10,7 +10,9 @@ use command_words::{Failed, Failure, bytes_from_hex};
 use connection_io::{piece_buffer, read_piece};
 use digit_pack::{LayoutError, is_wide, write_slot};
 use safe_files::Place;
-use server_files::{InputSize, OwnFile, Progress, RecordsOf, Watched, failed_at, write_anew};
+use server_files::{
+    InputSize, OwnFile, ReadProgress, RecordsOf, WatchedReader, failed_at, write_anew,
+};
 use server_words::{KEY_TAKES, Making, SEED_TAKES};
 use session_core::{Header, Layout};
 use sha2::{Digest, Sha256};
@@ -82,9 +84,9 @@ pub fn progress_of<'a>(
     rt: &'a HostRuntime,
     making: &Making<'_>,
     whole: InputSize,
-) -> Option<Progress<'a>> {
+) -> Option<ReadProgress<'a>> {
     if making.progress {
-        Progress::new(rt, whole)
+        ReadProgress::new(rt, whole)
     } else {
         None
     }
@@ -92,7 +94,7 @@ pub fn progress_of<'a>(
 
 // Makes a store of form 1. The input is the bytes of its records.
 fn make_of_bytes(rt: &HostRuntime, making: &Making<'_>, keys: &Keys) -> Result<u32, Failed> {
-    let mut input = Watched::new(rt.reader(), progress_of(rt, making, InputSize::Unknown));
+    let mut input = WatchedReader::new(rt.reader(), progress_of(rt, making, InputSize::Unknown));
     let records = read_input(rt.alloc(), &mut input, most_bytes(making.wide))?;
     let header = header_of(making, keys, whole_records(making, records.len()));
     if !header.is_accepted() {
@@ -118,7 +120,7 @@ pub fn most_bytes(wide: bool) -> usize
 
 // Makes a store of form 2. The input has a line for each record.
 fn make_of_lines(rt: &HostRuntime, making: &Making<'_>, keys: &Keys) -> Result<u32, Failed> {
-    let mut input = Watched::new(rt.reader(), progress_of(rt, making, InputSize::Unknown));
+    let mut input = WatchedReader::new(rt.reader(), progress_of(rt, making, InputSize::Unknown));
     let lines = read_input(rt.alloc(), &mut input, 2 * most_bytes(making.wide))?;
     let header = header_of(making, keys, lines_in(&lines));
     if !header.is_accepted() {

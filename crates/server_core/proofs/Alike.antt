@@ -16,12 +16,12 @@ use Rattle.pir_schemes.proofs.Lengths.{length-answer}
 use Rattle.version_store.specs.Histories.{History, current_version}
 use Rattle.server_core.specs.declared.standing.Standing.{Standing}
 use Rattle.server_core.specs.Laws.{AreAlikeReplies, RepliesHoldNoIndex, RepliesHoldNoLength, AnswersHaveTheirLayoutsLength}
-use Rattle.server_core.specs.Serving.{Setting, Outcome, query_asked, replies_with, refuses, stale, words_asked, is_welcome}
+use Rattle.server_core.specs.Serving.{Setting, AfterFrame, query_asked, replies_with, refuses, stale, words_asked, is_welcome}
 
 -- ---- queries
 
 -- two outcomes that are alike, on two histories
-record Alike (st : Standing) (h g : History) (o p : Outcome) : Type 0 where
+record Alike (st : Standing) (h g : History) (o p : AfterFrame) : Type 0 where
   reply : Frame
   reply2 : Frame
   first : o ≡ replies_with reply st h
@@ -30,12 +30,12 @@ record Alike (st : Standing) (h g : History) (o p : Outcome) : Type 0 where
   kind : kind_of reply ≡ kind_of reply2
   len : length (payload_of reply) ≡ length (payload_of reply2)
 
-by_case : (st : Standing) (h g : History) (b : Bool) (o o2 p p2 : Outcome) → Alike st h g o o2 → Alike st h g p p2 →
+by_case : (st : Standing) (h g : History) (b : Bool) (o o2 p p2 : AfterFrame) → Alike st h g o o2 → Alike st h g p p2 →
     Alike st h g (cond b o p) (cond b o2 p2)
 by_case st h g true o o2 p p2 a c = a
 by_case st h g false o o2 p p2 a c = c
 
-either : (st : Standing) (h g : History) (b d : Bool) (o o2 p p2 : Outcome) → b ≡ d → Alike st h g o o2 → Alike st h g p p2 →
+either : (st : Standing) (h g : History) (b d : Bool) (o o2 p p2 : AfterFrame) → b ≡ d → Alike st h g o o2 → Alike st h g p p2 →
     Alike st h g (cond b o p) (cond d o2 p2)
 either st h g b d o o2 p p2 e a c = subst (λ (x : Bool). Alike st h g (cond b o p) (cond x o2 p2)) e (by_case st h g b o o2 p p2 a c)
 

@@ -5,7 +5,7 @@ use Rattle.frame_codec.specs.declared.frame.Frame.{Frame}
 use Rattle.version_store.specs.Histories.{History}
 use Rattle.server_core.specs.declared.standing.Standing.{Standing}
 use Rattle.server_core.specs.declared.standing.Standing.TheVariants.{Stranger, Reader, Publisher, Closed}
-use Rattle.server_core.specs.Serving.{Setting, Outcome, IsOutcome, ServesAll, outcome_of_frame}
+use Rattle.server_core.specs.Serving.{Setting, AfterFrame, IsAfterFrame, ServesAll, after_frame}
 use Rattle.server_core.specs.Courses.{SessionCourse, course_of, with_reply, is_memory, lacks_memory}
 
 -- the prefix and the rest of replies that don't lack memory
@@ -18,32 +18,32 @@ prefix_of (f ∷ rs) others e = prefix_of rs others (rest (is_memory f) (lacks_m
     rest false b e = e
 
 -- so each frame is served as the checks say
-as_served : (x : Setting) (h : History) (st : Standing) (f : Frame) (o : Outcome) (others : List Frame) → IsOutcome x h st f o →
-    lacks_memory (option_to_list o.reply ++ others) ≡ false → o ≡ outcome_of_frame x h st f
+as_served : (x : Setting) (h : History) (st : Standing) (f : Frame) (o : AfterFrame) (others : List Frame) → IsAfterFrame x h st f o →
+    lacks_memory (option_to_list o.reply ++ others) ≡ false → o ≡ after_frame x h st f
 as_served x h st f o others (inl e) lacks = e
 as_served x h st f o others (inr e) lacks =
-    let bad : true ≡ false = subst (λ (y : Outcome). lacks_memory (option_to_list y.reply ++ others) ≡ false) e.1 lacks in
+    let bad : true ≡ false = subst (λ (y : AfterFrame). lacks_memory (option_to_list y.reply ++ others) ≡ false) e.1 lacks in
     absurd cc
 
-more : (o p : Outcome) (others : List Frame) (h2 : History) (st2 : Standing) (c : SessionCourse) → o ≡ p →
+more : (o p : AfterFrame) (others : List Frame) (h2 : History) (st2 : Standing) (c : SessionCourse) → o ≡ p →
     record { history = h2; standing = st2; replies = others } ≡ c
     → record { history = h2; standing = st2; replies = option_to_list o.reply ++ others } ≡ with_reply p c
 more o p others h2 st2 c e d = rw (e, ← d) refl
 
 -- one frame of an open session, where it is so of the others
-step : (x : Setting) (h : History) (st : Standing) (f : Frame) (fs : List Frame) (h2 : History) (st2 : Standing) (replies : List Frame) (o : Outcome)
-    (others : List Frame) → IsOutcome x h st f o → replies ≡ option_to_list o.reply ++ others
+step : (x : Setting) (h : History) (st : Standing) (f : Frame) (fs : List Frame) (h2 : History) (st2 : Standing) (replies : List Frame) (o : AfterFrame)
+    (others : List Frame) → IsAfterFrame x h st f o → replies ≡ option_to_list o.reply ++ others
     → (lacks_memory others ≡ false → record { history = h2; standing = st2; replies = others } ≡ course_of x o.history o.standing fs) →
     lacks_memory replies ≡ false
     → record { history = h2; standing = st2; replies = replies }
-    ≡ with_reply (outcome_of_frame x h st f) (course_of x (outcome_of_frame x h st f).history (outcome_of_frame x h st f).standing fs)
+    ≡ with_reply (after_frame x h st f) (course_of x (after_frame x h st f).history (after_frame x h st f).standing fs)
 step x h st f fs h2 st2 replies o others is e s lacks =
     let clear : lacks_memory (option_to_list o.reply ++ others) ≡ false = subst (λ (y : List Frame). lacks_memory y ≡ false) e lacks in
-    let p : o ≡ outcome_of_frame x h st f = as_served x h st f o others is clear in
+    let p : o ≡ after_frame x h st f = as_served x h st f o others is clear in
     let d : record { history = h2; standing = st2; replies = others } ≡ course_of x o.history o.standing fs =
     s (prefix_of (option_to_list o.reply) others clear) in
-    rw e (more o (outcome_of_frame x h st f) others h2 st2 (course_of x (outcome_of_frame x h st f).history (outcome_of_frame x h st f).standing fs) p
-    (subst (λ (y : Outcome). record { history = h2; standing = st2; replies = others } ≡ course_of x y.history y.standing fs) p d))
+    rw e (more o (after_frame x h st f) others h2 st2 (course_of x (after_frame x h st f).history (after_frame x h st f).standing fs) p
+    (subst (λ (y : AfterFrame). record { history = h2; standing = st2; replies = others } ≡ course_of x y.history y.standing fs) p d))
 
 pub decided : (x : Setting) (h : History) (st : Standing) (fs : List Frame) (h2 : History) (st2 : Standing) (replies : List Frame) →
     ServesAll x h st fs h2 st2 replies → lacks_memory replies ≡ false

@@ -17,7 +17,7 @@ use Rattle.version_store.specs.Histories.{StoreState, History, StandsFor}
 use Rattle.server_core.specs.declared.standing.Standing.{Standing}
 use Rattle.server_core.specs.declared.standing.Standing.TheVariants.{Closed}
 use Rattle.server_core.specs.Serving.{is_wide_setting, Setting, setting_of, Serves, ServedAll, is_closed}
-use Rattle.server_core.specs.Sessions.{Session, IsLive, ServesPiece, IsStop, IsUnjudged, IsFirstUnread, FedFirst, Ended, ServedFrames, frames_taken, bytes_used, reading_end, ServesFrame, HasTaken}
+use Rattle.server_core.specs.Sessions.{Session, IsLive, ServesPiece, IsStop, IsUnjudged, IsFirstUnread, FeedsStoreFirst, Ended, ServedFrames, frames_taken, bytes_used, reading_end, ServesFrame, HasTaken}
 use Rattle.server_core.specs.Laws.{FirstsArePieces, StopsArePieces}
 use Rattle.server_core.proofs.Pieces.{stays_live, unread, ended}
 use Rattle.server_core.proofs.Runs.{serves_one}
@@ -61,7 +61,7 @@ first_unread x old piece (Err fault) new live f u =
 pub first_well : (x : Setting) (h : History) (old : Session) (piece : List ℕ) (store : StoreState) (after : Standing) (u : Option (List ℕ))
     (before new : List ℕ) (answer : Result FrameRead ReadFault) → is_closed old.standing ≡ false → FeedsFrame (is_wide_setting x) old.unfinished piece answer u →
     ServedFrames x h old.standing (frames_taken answer) (reading_end answer) store after before new
-    → FedFirst x h old piece (Ok (bytes_used piece answer)) store (record { standing = after; unfinished = u }) before new
+    → FeedsStoreFirst x h old piece (Ok (bytes_used piece answer)) store (record { standing = after; unfinished = u }) before new
 first_well x h old piece store after u before new answer open_ reads s =
     let a = s.frames_are in
     let p : ServesFrame x h old piece (bytes_used piece answer) a.history (record { standing = after; unfinished = u }) (a.replies ++ s.more) =
@@ -91,7 +91,7 @@ first_well x h old piece store after u before new answer open_ reads s =
 pub first_short : (x : Setting) (h : History) (old : Session) (piece : List ℕ) (e : AllocError) (store : StoreState) (u : Option (List ℕ))
     (before new : List ℕ) (answer : Result FrameRead ReadFault) → is_closed old.standing ≡ false → FeedsFrame (is_wide_setting x) old.unfinished piece answer u →
     HasTaken answer → setting_of store ≡ x → StandsFor store h → new ≡ before
-    → FedFirst x h old piece (Err e) store (record { standing = Closed; unfinished = u }) before new
+    → FeedsStoreFirst x h old piece (Err e) store (record { standing = Closed; unfinished = u }) before new
 first_short x h old piece e store u before new answer open_ reads stop set stands same = record {
   history = h;
   replies = [];

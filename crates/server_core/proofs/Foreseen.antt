@@ -16,7 +16,7 @@ use Rattle.frame_codec.proofs.Unique.{one_encoding, fault_of_frame}
 use Rattle.version_store.specs.Histories.{StoreState, History, StandsFor, current_version, published}
 use Rattle.server_core.specs.declared.standing.Standing.{Standing}
 use Rattle.server_core.specs.declared.standing.Standing.TheVariants.{Stranger, Reader, Publisher, Closed}
-use Rattle.server_core.specs.Serving.{is_wide_setting, Setting, Outcome, MayPublish, IsOutcome, ServesAll, is_closed, is_publisher, outcome_of_frame}
+use Rattle.server_core.specs.Serving.{is_wide_setting, Setting, AfterFrame, MayPublish, IsAfterFrame, ServesAll, is_closed, is_publisher, after_frame}
 use Rattle.server_core.specs.Sessions.{Session, AfterReading, ServesFrame, frames_taken}
 use Rattle.server_core.specs.Laws.{ForeseenArePublished}
 
@@ -68,35 +68,35 @@ either A false m = m
 
 -- what the frame leads to, where nothing refuses it but memory
 outcome_is : (x : Setting) (h : History) (store : StoreState) → StandsFor store h → MayPublish Publisher store →
-    outcome_of_frame x h Publisher Publish ≡ record { reply = Some (Done (current_version h + 1)); standing = Publisher; history = published h }
+    after_frame x h Publisher Publish ≡ record { reply = Some (Done (current_version h + 1)); standing = Publisher; history = published h }
 outcome_is x h store s may =
     let marked : h.marked ≡ true = s.marked ∙ may.marked in
     let more : (current_version h + 1 == 2 ^ 64) ≡ false = ne_eqb (current_version h + 1) (2 ^ 64) (λ e. omega (arith, e, s.version, may.below)) in
     rw (marked, more) refl
 
 -- the reply and the version after it
-pub record Ends (store : StoreState) (h : History) (o : Outcome) : Type 0 where
+pub record Ends (store : StoreState) (h : History) (o : AfterFrame) : Type 0 where
   pub reply : Frame
   pub reply_is : o.reply ≡ Some reply
   pub course : ((current_version o.history ≡ store.version + 1) × (reply ≡ Done (store.version + 1)))
       ⊎ ((current_version o.history ≡ store.version) × (reply ≡ refused refusal.Memory))
 
-ends_of : (x : Setting) (h : History) (store : StoreState) (o : Outcome) → StandsFor store h → MayPublish Publisher store →
-    IsOutcome x h Publisher Publish o → Ends store h o
+ends_of : (x : Setting) (h : History) (store : StoreState) (o : AfterFrame) → StandsFor store h → MayPublish Publisher store →
+    IsAfterFrame x h Publisher Publish o → Ends store h o
 ends_of x h store o s may (inl is) =
     let whole = is ∙ outcome_is x h store s may in
     record {
       reply = Done (current_version h + 1);
-      reply_is = ap (λ (p : Outcome). p.reply) whole;
+      reply_is = ap (λ (p : AfterFrame). p.reply) whole;
       course = inl (
-        ap (λ (p : Outcome). current_version p.history) whole ∙ omega (arith, s.version),
+        ap (λ (p : AfterFrame). current_version p.history) whole ∙ omega (arith, s.version),
         ap (λ (n : ℕ). Done (n + 1)) s.version,
       );
     }
 ends_of x h store o s may (inr memory) = record {
   reply = refused refusal.Memory;
-  reply_is = ap (λ (p : Outcome). p.reply) memory.1;
-  course = inr (ap (λ (p : Outcome). current_version p.history) memory.1 ∙ s.version, refl);
+  reply_is = ap (λ (p : AfterFrame). p.reply) memory.1;
+  course = inr (ap (λ (p : AfterFrame). current_version p.history) memory.1 ∙ s.version, refl);
 }
 
 -- what is written then
@@ -105,7 +105,7 @@ Told store after out written =
     ((after.version ≡ store.version + 1) × (written ≡ out ++ encoding (Done (store.version + 1))))
     ⊎ ((after.version ≡ store.version) × (written ≡ out ++ encoding (refused refusal.Memory)))
 
-told : (store after : StoreState) (h end : History) (o : Outcome) (replies others more reported : List Frame) (out written : List ℕ) → Ends store h o →
+told : (store after : StoreState) (h end : History) (o : AfterFrame) (replies others more reported : List Frame) (out written : List ℕ) → Ends store h o →
     StandsFor after end → end ≡ o.history → reported ≡ option_to_list o.reply ++ others → others ≡ [] → more ≡ [] → replies ≡ reported ++ more
     → written ≡ out ++ flat_map encoding replies → Told store after out written
 unfolding Told

@@ -18,7 +18,7 @@ use Rattle.version_store.specs.Histories.{StoreState, History, StandsFor}
 use Rattle.server_core.specs.declared.standing.Standing.{Standing}
 use Rattle.server_core.specs.declared.standing.Standing.TheVariants.{Closed}
 use Rattle.server_core.specs.Serving.{is_wide_setting, Setting, setting_of, ServedAll, is_closed, BrokenOff}
-use Rattle.server_core.specs.Sessions.{Session, IsLive, AfterReading, ServesPiece, Fed, Ended, ServedFrames, ServedOpen, StoppedFrames, IsUnjudged, IsUnread}
+use Rattle.server_core.specs.Sessions.{Session, IsLive, AfterReading, ServesPiece, FeedsStore, Ended, ServedFrames, ServedOpen, StoppedFrames, IsUnjudged, IsUnread}
 
 -- ---- a piece's frames and its end
 
@@ -73,14 +73,14 @@ stopped_after x h st frames answer store middle before bytes new open_ a err sam
 -- ---- a piece
 
 pub fed_closed : (x : Setting) (h : History) (old : Session) (piece : List ℕ) (d : Unit {0}) (store : StoreState) (before : List ℕ) →
-    is_closed old.standing ≡ true → setting_of store ≡ x → StandsFor store h → Fed x h old piece (Ok d) store old before before
+    is_closed old.standing ≡ true → setting_of store ≡ x → StandsFor store h → FeedsStore x h old piece (Ok d) store old before before
 fed_closed x h old piece d store before shut s i =
     record { history = h; replies = []; setting_is = s; store_is = i; course = rw shut (refl, refl, refl); written = sym (append-nil before); each = tt }
 
 pub fed_well : (x : Setting) (h : History) (old : Session) (piece : List ℕ) (d : Unit {0}) (store : StoreState) (after : Standing) (u : Option (List ℕ))
     (before new : List ℕ) (answer : Result (Unit {0}) ReadFault) (frames : List Frame) → is_closed old.standing ≡ false
     → Feeds (is_wide_setting x) old.unfinished piece answer frames u → ServedFrames x h old.standing frames answer store after before new →
-    Fed x h old piece (Ok d) store (record { standing = after; unfinished = u }) before new
+    FeedsStore x h old piece (Ok d) store (record { standing = after; unfinished = u }) before new
 fed_well x h old piece d store after u before new answer frames open_ reads s =
     let a = s.frames_are in
     let p : ServesPiece x h old piece a.history (record { standing = after; unfinished = u }) (a.replies ++ s.more) =
@@ -110,7 +110,7 @@ fed_well x h old piece d store after u before new answer frames open_ reads s =
 pub fed_short : (x : Setting) (h : History) (old : Session) (piece : List ℕ) (e : AllocError) (store : StoreState) (u : Option (List ℕ)) (before new : List ℕ)
     (answer : Result (Unit {0}) ReadFault) (frames : List Frame) → is_closed old.standing ≡ false
     → Feeds (is_wide_setting x) old.unfinished piece answer frames u → StoppedFrames x h old.standing frames answer store before new →
-    Fed x h old piece (Err e) store (record { standing = Closed; unfinished = u }) before new
+    FeedsStore x h old piece (Err e) store (record { standing = Closed; unfinished = u }) before new
 fed_short x h old piece e store u before new answer frames open_ reads s =
     let a = s.frames_are in
     record {

@@ -10,15 +10,15 @@ use Rattle.version_store.specs.Histories.{History, current_version, delta_rows, 
 use Rattle.frame_codec.specs.declared.frame.Frame.{Frame}
 use Rattle.frame_codec.specs.declared.frame.Frame.TheVariants.{Load, Hello, HintAsk, DeltaAsk, Query, Edit, Publish, Bye, Append, ChangesAsk, Welcome, HintPart, Delta, Answer, Stale, Done, NoDelta, Changes, Refused}
 use Rattle.server_core.specs.declared.standing.Standing.{Standing}
-use Rattle.server_core.specs.Serving.{Outcome, Setting, is_wide_setting, is_reader_key, is_publisher_key, is_welcome, is_publisher, has_part, words_asked, most_changes, hint_asked, query_asked, delta_asked, changes_asked, outcome_of_frame}
+use Rattle.server_core.specs.Serving.{AfterFrame, Setting, is_wide_setting, is_reader_key, is_publisher_key, is_welcome, is_publisher, has_part, words_asked, most_entry_bytes, hint_asked, query_asked, delta_asked, changes_asked, after_frame}
 use Rattle.server_core.specs.Laws.{HasKnownKind, RepliesHaveKnownKinds}
 
 -- an outcome whose reply has a kind of the setting's streams
-abbrev Known : Setting → Outcome → Type 0
+abbrev Known : Setting → AfterFrame → Type 0
 Known x o = HasKnownKind x o.reply
 
 -- of two outcomes that have one, either has
-either : (x : Setting) (b : Bool) (o p : Outcome) → Known x o → Known x p → Known x (if b then o else p)
+either : (x : Setting) (b : Bool) (o p : AfterFrame) → Known x o → Known x p → Known x (if b then o else p)
 either x true o p k l = k
 either x false o p k l = l
 
@@ -42,9 +42,9 @@ changes_known : (x : Setting) (h : History) (st : Standing) (since : ℕ) (found
 changes_known x h st since None wide = refl
 changes_known x h st since (Some entries) wide = rw wide refl
 
-changes_ask_known : (x : Setting) (h : History) (st : Standing) (since : ℕ) → Known x (outcome_of_frame x h st (ChangesAsk since))
+changes_ask_known : (x : Setting) (h : History) (st : Standing) (since : ℕ) → Known x (after_frame x h st (ChangesAsk since))
 changes_ask_known x h st since = elim (cases_Bool (is_wide_setting x)) [
-  | inl wide ↦ rw wide (either x (is_welcome st) _ _ (changes_known x h st since (changes_since x.plan h since (most_changes x)) wide) refl)
+  | inl wide ↦ rw wide (either x (is_welcome st) _ _ (changes_known x h st since (changes_since x.plan h since (most_entry_bytes x)) wide) refl)
   | inr ordinary ↦ rw ordinary refl
 ]
 

@@ -11,21 +11,21 @@ use Rattle.frame_codec.specs.Frames.{IsFrame, encoding}
 use Rattle.version_store.specs.Histories.{StoreState, History, StandsFor}
 use Rattle.server_core.specs.declared.standing.Standing.{Standing}
 use Rattle.server_core.specs.declared.standing.Standing.TheVariants.{Stranger, Reader, Publisher, Closed}
-use Rattle.server_core.specs.Serving.{Setting, setting_of, Outcome, IsOutcome, ServesAll, ServedAll, Serves, HasOutcome, outcome_of_frame, refuses, is_closed, reply_bytes, FitsReply}
+use Rattle.server_core.specs.Serving.{Setting, setting_of, AfterFrame, IsAfterFrame, ServesAll, ServedAll, Serves, HasAfterFrame, after_frame, refuses, is_closed, reply_bytes, FitsReply}
 
 -- a closed session is not open
 pub not_both : {P : Type 0} (st : Standing) → is_closed st ≡ true → is_closed st ≡ false → P
 not_both st shut open_ = absurd (let bad : true ≡ false = sym shut ∙ open_ in cc)
 
 -- one more frame
-serves_more : (x : Setting) (h : History) (st : Standing) (fs : List Frame) (h2 : History) (st2 : Standing) (rs : List Frame) (f : Frame) (o : Outcome) →
-    ServesAll x h st fs h2 st2 rs → is_closed st2 ≡ false → IsOutcome x h2 st2 f o
+serves_more : (x : Setting) (h : History) (st : Standing) (fs : List Frame) (h2 : History) (st2 : Standing) (rs : List Frame) (f : Frame) (o : AfterFrame) →
+    ServesAll x h st fs h2 st2 rs → is_closed st2 ≡ false → IsAfterFrame x h2 st2 f o
     → ServesAll x h st (fs ++ f ∷ []) o.history o.standing (rs ++ option_to_list o.reply)
 serves_more x h st [] h2 st2 rs f o s open_ one =
     opens x h st h2 st2 rs f o s open_ one (sym (ap is_closed s.1) ∙ open_)
   where
-    opens : (x : Setting) (h : History) (st : Standing) (h2 : History) (st2 : Standing) (rs : List Frame) (f : Frame) (o : Outcome) → (h2 ≡ h) × (st2 ≡ st)
-        × (rs ≡ []) → is_closed st2 ≡ false → IsOutcome x h2 st2 f o → is_closed st ≡ false
+    opens : (x : Setting) (h : History) (st : Standing) (h2 : History) (st2 : Standing) (rs : List Frame) (f : Frame) (o : AfterFrame) → (h2 ≡ h) × (st2 ≡ st)
+        × (rs ≡ []) → is_closed st2 ≡ false → IsAfterFrame x h2 st2 f o → is_closed st ≡ false
         → ServesAll x h st (f ∷ []) o.history o.standing (rs ++ option_to_list o.reply)
     opens x h Closed h2 st2 rs f o s open_ one e = absurd (let bad : true ≡ false = e in cc)
     opens x h Stranger h2 st2 rs f o s open_ one e = (o, [], rw (← s.0, ← s.1) one, rw s.2 (sym (append-nil (option_to_list o.reply))), (refl, refl, refl))
@@ -69,8 +69,8 @@ drops_more x h Publisher (g ∷ fs) h2 st2 rs f s shut = (s.0, s.1, s.2, s.3, dr
 -- what a call on a store says of the history
 outcome_of : (x : Setting) (h : History) (st : Standing) (f : Frame) (store : StoreState) (st2 : Standing) (before after : List ℕ) →
     Serves x h st f store st2 before after
-    → (o : Outcome) × IsOutcome x h st f o × HasOutcome x o store st2 before after
-outcome_of x h st f store st2 before after (inl s) = (outcome_of_frame x h st f, inl refl, s)
+    → (o : AfterFrame) × IsAfterFrame x h st f o × HasAfterFrame x o store st2 before after
+outcome_of x h st f store st2 before after (inl s) = (after_frame x h st f, inl refl, s)
 outcome_of x h st f store st2 before after (inr s) = (refuses refusal.Memory st h, inr (s.0, refl), s.1)
 
 encodes : (r : Option Frame) → flat_map encoding (option_to_list r) ≡ reply_bytes r

@@ -8,7 +8,7 @@ use Rattle.frame_codec.specs.Streams.{unfinished_size}
 use Rattle.pir_schemes.specs.declared.scheme.Scheme.{Scheme}
 use Rattle.version_store.specs.Histories.{StoreState, History}
 use Rattle.server_core.specs.Serving.{Setting, is_closed}
-use Rattle.server_core.specs.Sessions.{Session, Fed, FedFirst, IsComing, IsFirstUnread, WouldAnswer, WouldPublish}
+use Rattle.server_core.specs.Sessions.{Session, FeedsStore, FeedsStoreFirst, IsComing, IsFirstUnread, WouldAnswer, WouldPublish}
 use Rattle.server_core.specs.declared.session.Coming.{Coming}
 use Rattle.server_core.specs.declared.session.Coming.TheVariants.{Short}
 use Rattle.server_core.specs.declared.server.FeedError.{FeedError}
@@ -70,14 +70,14 @@ IsFirstUnreadBy x (Some old) piece (Some new) = IsFirstUnread x old.unfinished p
 -- What a piece did, as the answer says: all of it was served, or memory was refused. Without a
 -- session nothing is served.
 abbrev pub FeedsCore : Setting → History → Session → List ℕ → Result (Unit {0}) FeedError → StoreState → Session → List ℕ → List ℕ → Type 0
-FeedsCore x h old piece (Ok done) store new before after = Fed x h old piece (Ok done) store new before after
-FeedsCore x h old piece (Err Memory) store new before after = (e : AllocError) × Fed x h old piece (Err e) store new before after
+FeedsCore x h old piece (Ok done) store new before after = FeedsStore x h old piece (Ok done) store new before after
+FeedsCore x h old piece (Err Memory) store new before after = (e : AllocError) × FeedsStore x h old piece (Err e) store new before after
 FeedsCore x h old piece (Err NoSession) store new before after = ⊥
 
 -- What the first frame of a piece does, of which so many bytes were used up.
 abbrev pub FeedsCoreFirst : Setting → History → Session → List ℕ → Result ℕ FeedError → StoreState → Session → List ℕ → List ℕ → Type 0
-FeedsCoreFirst x h old piece (Ok count) store new before after = FedFirst x h old piece (Ok count) store new before after
-FeedsCoreFirst x h old piece (Err Memory) store new before after = (e : AllocError) × FedFirst x h old piece (Err e) store new before after
+FeedsCoreFirst x h old piece (Ok count) store new before after = FeedsStoreFirst x h old piece (Ok count) store new before after
+FeedsCoreFirst x h old piece (Err Memory) store new before after = (e : AllocError) × FeedsStoreFirst x h old piece (Err e) store new before after
 FeedsCoreFirst x h old piece (Err NoSession) store new before after = ⊥
 
 -- if there is no session

@@ -10,7 +10,7 @@ use Rattle.frame_codec.specs.Streams.{Feeds}
 use Rattle.version_store.specs.Histories.{History}
 use Rattle.server_core.specs.declared.standing.Standing.{Standing}
 use Rattle.server_core.specs.declared.standing.Standing.TheVariants.{Closed}
-use Rattle.server_core.specs.Serving.{Setting, is_wide_setting, Outcome, outcome_of_frame, is_closed}
+use Rattle.server_core.specs.Serving.{Setting, is_wide_setting, AfterFrame, after_frame, is_closed}
 use Rattle.server_core.specs.Sessions.{Session, ServesPiece}
 
 -- the history and the standing after some frames, and the replies
@@ -20,7 +20,7 @@ pub record SessionCourse : Type 0 where
   pub replies : List Frame
 
 -- a reply, and then others
-abbrev pub with_reply : Outcome → SessionCourse → SessionCourse
+abbrev pub with_reply : AfterFrame → SessionCourse → SessionCourse
 with_reply o c = record { history = c.history; standing = c.standing; replies = option_to_list o.reply ++ c.replies }
 
 -- each frame as the checks say, until the session is closed
@@ -28,7 +28,7 @@ abbrev pub course_of : Setting → History → Standing → List Frame → Sessi
 course_of x h st [] = record { history = h; standing = st; replies = [] }
 course_of x h st (f ∷ fs) =
     cond (is_closed st) (record { history = h; standing = st; replies = [] })
-    (with_reply (outcome_of_frame x h st f) (course_of x (outcome_of_frame x h st f).history (outcome_of_frame x h st f).standing fs))
+    (with_reply (after_frame x h st f) (course_of x (after_frame x h st f).history (after_frame x h st f).standing fs))
 
 -- if the reading stops after frames that leave the session open: a fault is refused, and closes
 -- it

@@ -14,8 +14,8 @@ use Rattle.frame_codec.specs.Streams.{Feeds, is_kind}
 use Rattle.version_store.specs.Histories.{StoreState, History, StandsFor, current_version}
 use Rattle.server_core.specs.declared.standing.Standing.{Standing}
 use Rattle.server_core.specs.Courses.{course_of_piece, lacks_memory, FeedsWithMemory, WasShortOfMemory}
-use Rattle.server_core.specs.Serving.{Setting, is_wide_setting, is_closed, outcome_of_frame, replies_with, words_answered}
-use Rattle.server_core.specs.Sessions.{Session, FeedsSession, FeedsFirst, Fed, FedFirst, WouldPublish}
+use Rattle.server_core.specs.Serving.{Setting, is_wide_setting, is_closed, after_frame, replies_with, words_answered}
+use Rattle.server_core.specs.Sessions.{Session, FeedsSession, FeedsFirst, FeedsStore, FeedsStoreFirst, WouldPublish}
 
 -- Sessions that nobody can tell apart: the same standing and the same unfinished bytes, of which a
 -- closed session reads no more.
@@ -107,7 +107,7 @@ pub record SameFeed (before after before2 after2 : List ℕ) (new new2 : Session
 abbrev pub FeedsAreAlike : Type 0
 FeedsAreAlike = (x : Setting) (h : History) (old : Session) (piece : List ℕ) (done done2 : Unit {0}) (store store2 : StoreState) (new new2 : Session)
     (before after before2 after2 : List ℕ)
-    → (f : Fed x h old piece (Ok done) store new before after) → (g : Fed x h old piece (Ok done2) store2 new2 before2 after2) →
+    → (f : FeedsStore x h old piece (Ok done) store new before after) → (g : FeedsStore x h old piece (Ok done2) store2 new2 before2 after2) →
     FeedsWithMemory x h old piece f.history new f.replies → FeedsWithMemory x h old piece g.history new2 g.replies
     → SameFeed before after before2 after2 new new2 f.history g.history
 
@@ -127,8 +127,8 @@ AreAlikeReplies reply other = other ≡ reply
 pub record AnsweredAlike (x : Setting) (h g : History) (st : Standing) (query other : Frame) : Type 0 where
   pub reply : Frame
   pub reply2 : Frame
-  pub first : outcome_of_frame x h st query ≡ replies_with reply st h
-  pub second : outcome_of_frame x g st other ≡ replies_with reply2 st g
+  pub first : after_frame x h st query ≡ replies_with reply st h
+  pub second : after_frame x g st other ≡ replies_with reply2 st g
   pub alike : AreAlikeReplies reply reply2
   pub kind : kind_of reply ≡ kind_of reply2
   pub len : length (payload_of reply) ≡ length (payload_of reply2)
@@ -139,8 +139,9 @@ abbrev pub RepliesHoldNoIndex : Type 0
 RepliesHoldNoIndex = (x : Setting) (h : History) (st : Standing) (scheme version : ℕ) (words others : List ℕ) → length words ≡ length others
     → AnsweredAlike x h h st (Query scheme version words) (Query scheme version others)
 
--- Of the history, the number of the current version and its record count alone decide a reply's
--- kind and length: what the records are, and how long each of them is, changes neither.
+-- Of the history, the number of the current version and its record count alone decide the kind and
+-- the length of a reply to a query: what the records are, and how long each of them is, changes
+-- neither.
 abbrev pub RepliesHoldNoLength : Type 0
 RepliesHoldNoLength = (x : Setting) (h g : History) (st : Standing) (scheme version : ℕ) (words others : List ℕ)
     → current_version h ≡ current_version g → length h.current ≡ length g.current → length words ≡ length others
@@ -157,15 +158,15 @@ HasKnownKind x None = Unit {0}
 HasKnownKind x (Some reply) = is_kind (is_wide_setting x) (kind_of reply) ≡ true
 
 -- No frame leads to a reply of a kind that the session's stream doesn't have: the kinds of a wide
--- database are sent to its own sessions alone.
+-- store are sent to its own sessions alone.
 abbrev pub RepliesHaveKnownKinds : Type 0
-RepliesHaveKnownKinds = (x : Setting) (h : History) (st : Standing) (f : Frame) → HasKnownKind x (outcome_of_frame x h st f).reply
+RepliesHaveKnownKinds = (x : Setting) (h : History) (st : Standing) (f : Frame) → HasKnownKind x (after_frame x h st f).reply
 
 -- A publication that was foreseen is made and told, or memory is refused to it, and the version
 -- stays.
 abbrev pub ForeseenArePublished : Type 0
 ForeseenArePublished = (x : Setting) (h : History) (s : Session) (piece : List ℕ) (store : StoreState) (count : ℕ) (after : StoreState) (new : Session)
     (out written : List ℕ)
-    → StandsFor store h → WouldPublish s piece store → FedFirst x h s piece (Ok count) after new out written
+    → StandsFor store h → WouldPublish s piece store → FeedsStoreFirst x h s piece (Ok count) after new out written
     → ((after.version ≡ store.version + 1) × (written ≡ out ++ encoding (Done (store.version + 1))))
     ⊎ ((after.version ≡ store.version) × (written ≡ out ++ encoding (refused refusal.Memory)))

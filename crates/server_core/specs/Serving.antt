@@ -41,8 +41,8 @@ is_wide_setting x = is_wide x.plan.form
 
 -- how many bytes the entries of changed records may have in a reply: no more than fit into a frame,
 -- and an eighth of the hint's
-abbrev pub most_changes : Setting → ℕ
-most_changes x = min 16777196 (most_old_bytes x.plan)
+abbrev pub most_entry_bytes : Setting → ℕ
+most_entry_bytes x = min 16777196 (most_old_bytes x.plan)
 
 -- the key of 32 zero bytes is a reader's
 unfoldable pub is_reader_key : List ℕ → Bool
@@ -81,27 +81,26 @@ abbrev pub words_answered : Setting → Scheme → List (List ℕ) → ℕ
 words_answered x scheme records = answer_count scheme (shape_at x.plan (length records)) x.plan.dimension
 
 -- what one frame leads to: the reply, the standing and the history after it
-pub record Outcome : Type 0 where
+pub record AfterFrame : Type 0 where
   pub reply : Option Frame
   pub standing : Standing
   pub history : History
 
 -- a reply after which the history is as it was, with the standing after it
-abbrev pub replies_with : Frame → Standing → History → Outcome
+abbrev pub replies_with : Frame → Standing → History → AfterFrame
 replies_with reply st h = record { reply = Some reply; standing = st; history = h }
 
--- A refusal, with the standing after it. The history stays; so does the standing, but a bad frame
--- closes the session.
-abbrev pub refuses : Refusal → Standing → History → Outcome
+-- a refusal, after which the history is as it was, with the standing after it
+abbrev pub refuses : Refusal → Standing → History → AfterFrame
 refuses why st h = replies_with (refused why) st h
 
 -- a frame that names another version than the current one is answered with the current one and its
 -- record count
-abbrev pub stale : Standing → History → Outcome
+abbrev pub stale : Standing → History → AfterFrame
 stale st h = replies_with (Stale (current_version h) (length h.current)) st h
 
--- a greeting that is accepted
-abbrev pub welcomes : Setting → Standing → History → Outcome
+-- a greeting that is accepted: its reply is a Welcome, and the history is as it was
+abbrev pub welcomes : Setting → Standing → History → AfterFrame
 welcomes x st h =
     replies_with (Welcome (profile_of x.plan) x.plan.width x.plan.record_len x.plan.groups (length h.current)
     (current_version h) x.plan.dimension x.plan.seed) st h
@@ -112,7 +111,7 @@ is_welcome Reader = true
 is_welcome Publisher = true
 is_welcome _ = false
 
--- with the publisher's key
+-- a greeting with the publisher's key was accepted before
 abbrev pub is_publisher : Standing → Bool
 is_publisher Publisher = true
 is_publisher _ = false
@@ -135,7 +134,7 @@ is_closed Closed = true
 is_closed _ = false
 
 -- a part of a hint is asked for
-abbrev pub hint_asked : Setting → History → Standing → Option Scheme → ℕ → ℕ → Outcome
+abbrev pub hint_asked : Setting → History → Standing → Option Scheme → ℕ → ℕ → AfterFrame
 hint_asked x h st None version part = refuses refusal.BadScheme st h
 hint_asked x h st (Some scheme) version part =
     if version == current_version h then (
@@ -145,12 +144,12 @@ hint_asked x h st (Some scheme) version part =
     else stale st h
 
 -- no rows can be given, and the hint has to be fetched whole
-abbrev pub no_delta : Standing → History → Outcome
+abbrev pub no_delta : Standing → History → AfterFrame
 no_delta st h = replies_with (NoDelta (current_version h) (length h.current)) st h
 
 -- the rows that changed since a version are asked for, and these are they: at most 1024 of them are
 -- given, with the words of the current hint
-abbrev pub delta_asked : Setting → History → Standing → ℕ → Option (List ℕ) → Outcome
+abbrev pub delta_asked : Setting → History → Standing → ℕ → Option (List ℕ) → AfterFrame
 delta_asked x h st since None = no_delta st h
 delta_asked x h st since (Some rows) =
     if nat_le (length rows) 1024
@@ -159,12 +158,12 @@ delta_asked x h st since (Some rows) =
 
 -- the records that changed since a version are asked for, and these are the entries of what
 -- differs, if they can be given
-abbrev pub changes_asked : Setting → History → Standing → ℕ → Option (List ℕ) → Outcome
+abbrev pub changes_asked : Setting → History → Standing → ℕ → Option (List ℕ) → AfterFrame
 changes_asked x h st since None = no_delta st h
 changes_asked x h st since (Some entries) = replies_with (Changes since (current_version h) (length h.current) entries) st h
 
 -- a query is asked
-abbrev pub query_asked : Setting → History → Standing → Option Scheme → ℕ → List ℕ → Outcome
+abbrev pub query_asked : Setting → History → Standing → Option Scheme → ℕ → List ℕ → AfterFrame
 query_asked x h st None version words = refuses refusal.BadScheme st h
 query_asked x h st (Some scheme) version words =
     if version == current_version h then (
@@ -174,50 +173,50 @@ query_asked x h st (Some scheme) version words =
     else stale st h
 
 -- what a frame leads to whose sender has to have been greeted: this, or a refusal
-abbrev pub to_reader : Standing → History → Outcome → Outcome
-to_reader st h o = if is_welcome st then o else refuses refusal.NotWelcome st h
+abbrev pub if_welcome : Standing → History → AfterFrame → AfterFrame
+if_welcome st h o = if is_welcome st then o else refuses refusal.NotWelcome st h
 
 -- what a frame leads to whose sender has to be the publisher: this, or a refusal
-abbrev pub to_publisher : Standing → History → Outcome → Outcome
-to_publisher st h o = to_reader st h (if is_publisher st then o else refuses refusal.NotPublisher st h)
+abbrev pub if_publisher : Standing → History → AfterFrame → AfterFrame
+if_publisher st h o = if_welcome st h (if is_publisher st then o else refuses refusal.NotPublisher st h)
 
 -- What a frame leads to, in an open session: the first check that applies decides. Words of hints
 -- and answers are made from scratch.
-abbrev pub outcome_of_frame : Setting → History → Standing → Frame → Outcome
-outcome_of_frame x h st (Hello profile key) =
+abbrev pub after_frame : Setting → History → Standing → Frame → AfterFrame
+after_frame x h st (Hello profile key) =
     if accepts_profile x.plan profile then (
     if is_reader_key key then welcomes x Reader h else (
     if is_publisher_key x key then welcomes x Publisher h
     else refuses refusal.BadKey st h))
     else refuses refusal.BadProfile st h
-outcome_of_frame x h st (HintAsk scheme version part) = to_reader st h (hint_asked x h st (scheme_of_byte scheme) version part)
-outcome_of_frame x h st (DeltaAsk since) = to_reader st h (delta_asked x h st since (delta_rows x.plan h since))
-outcome_of_frame x h st (Query scheme version words) = to_reader st h (query_asked x h st (scheme_of_byte scheme) version words)
-outcome_of_frame x h st (Edit index bytes) =
-    to_publisher st h (
+after_frame x h st (HintAsk scheme version part) = if_welcome st h (hint_asked x h st (scheme_of_byte scheme) version part)
+after_frame x h st (DeltaAsk since) = if_welcome st h (delta_asked x h st since (delta_rows x.plan h since))
+after_frame x h st (Query scheme version words) = if_welcome st h (query_asked x h st (scheme_of_byte scheme) version words)
+after_frame x h st (Edit index bytes) =
+    if_publisher st h (
     if nat_lt index (length h.draft) then (
     if fits x.plan bytes
     then record { reply = Some (Done (current_version h)); standing = st; history = after_edit index bytes h }
     else refuses refusal.BadLength st h)
     else refuses refusal.BadIndex st h)
-outcome_of_frame x h st (Append bytes) =
-    to_publisher st h (
+after_frame x h st (Append bytes) =
+    if_publisher st h (
     if fits x.plan bytes then (
     if is_layout (shape_at x.plan (length h.draft + 1))
     then record { reply = Some (Done (current_version h)); standing = st; history = after_append bytes h }
     else refuses refusal.Full st h)
     else refuses refusal.BadLength st h)
-outcome_of_frame x h st Publish =
-    to_publisher st h (
+after_frame x h st Publish =
+    if_publisher st h (
     if h.marked then (
     if current_version h + 1 == 2 ^ 64 then refuses refusal.VersionsUsedUp st h
     else record { reply = Some (Done (current_version h + 1)); standing = st; history = published h })
     else refuses refusal.NothingToPublish st h)
-outcome_of_frame x h st (ChangesAsk since) =
-    if is_wide x.plan.form then to_reader st h (changes_asked x h st since (changes_since x.plan h since (most_changes x)))
+after_frame x h st (ChangesAsk since) =
+    if is_wide x.plan.form then if_welcome st h (changes_asked x h st since (changes_since x.plan h since (most_entry_bytes x)))
     else refuses refusal.BadFrame Closed h
-outcome_of_frame x h st Bye = record { reply = None; standing = Closed; history = h }
-outcome_of_frame x h st _ = refuses refusal.BadFrame Closed h
+after_frame x h st Bye = record { reply = None; standing = Closed; history = h }
+after_frame x h st _ = refuses refusal.BadFrame Closed h
 
 -- whether a frame that would get this reply may be refused for lack of memory instead: not if there
 -- is no reply, or if it is a Welcome, a Stale or a refusal
@@ -230,7 +229,7 @@ may_lack_memory (Some reply) = true
 
 -- whether every check is passed, and the reply or the change takes memory
 abbrev pub takes_memory : Setting → History → Standing → Frame → Bool
-takes_memory x h st f = may_lack_memory (outcome_of_frame x h st f).reply
+takes_memory x h st f = may_lack_memory (after_frame x h st f).reply
 
 -- there is room for so many bytes more
 abbrev pub HasRoom : ℕ → Vec ℕ Global → Type 0
@@ -248,8 +247,8 @@ IsFull out = vec_capacity out < vec_len out + 64
 
 -- what a frame may lead to: what the checks say, or a refusal for memory if the last of them is
 -- memory
-abbrev pub IsOutcome : Setting → History → Standing → Frame → Outcome → Type 0
-IsOutcome x h st f o = (o ≡ outcome_of_frame x h st f) ⊎ ((takes_memory x h st f ≡ true) × (o ≡ refuses refusal.Memory st h))
+abbrev pub IsAfterFrame : Setting → History → Standing → Frame → AfterFrame → Type 0
+IsAfterFrame x h st f o = (o ≡ after_frame x h st f) ⊎ ((takes_memory x h st f ≡ true) × (o ≡ refuses refusal.Memory st h))
 
 -- Frames are served one after another until the session is closed; then the others are dropped. The
 -- history and the standing after them, and the replies.
@@ -257,7 +256,7 @@ abbrev pub ServesAll : Setting → History → Standing → List Frame → Histo
 ServesAll x h st [] h2 st2 replies = (h2 ≡ h) × (st2 ≡ st) × (replies ≡ [])
 ServesAll x h st (f ∷ fs) h2 st2 replies =
     MatchBool (is_closed st) ((h2 ≡ h) × (st2 ≡ st) × (replies ≡ []))
-    ((o : Outcome) × (others : List Frame) × IsOutcome x h st f o × (replies ≡ option_to_list o.reply ++ others)
+    ((o : AfterFrame) × (others : List Frame) × IsAfterFrame x h st f o × (replies ≡ option_to_list o.reply ++ others)
     × ServesAll x o.history o.standing fs h2 st2 others)
 
 -- a reply that may be sent
@@ -272,7 +271,7 @@ reply_bytes (Some reply) = encoding reply
 
 -- A store that stands for an outcome's history in the setting, the outcome's standing, and what is
 -- written: before it, and with its reply at the end.
-pub record HasOutcome (x : Setting) (o : Outcome) (store : StoreState) (standing : Standing) (before after : List ℕ) : Type 0 where
+pub record HasAfterFrame (x : Setting) (o : AfterFrame) (store : StoreState) (standing : Standing) (before after : List ℕ) : Type 0 where
   pub setting_is : setting_of store ≡ x
   pub store_is : StandsFor store o.history
   pub standing_is : standing ≡ o.standing
@@ -282,8 +281,8 @@ pub record HasOutcome (x : Setting) (o : Outcome) (store : StoreState) (standing
 -- a frame was served by a store
 abbrev pub Serves : Setting → History → Standing → Frame → StoreState → Standing → List ℕ → List ℕ → Type 0
 Serves x h st f store standing before after =
-    HasOutcome x (outcome_of_frame x h st f) store standing before after
-    ⊎ ((takes_memory x h st f ≡ true) × HasOutcome x (refuses refusal.Memory st h) store standing before after)
+    HasAfterFrame x (after_frame x h st f) store standing before after
+    ⊎ ((takes_memory x h st f ≡ true) × HasAfterFrame x (refuses refusal.Memory st h) store standing before after)
 
 -- frames were served by a store
 pub record ServedAll (x : Setting) (h : History) (st : Standing) (frames : List Frame) (store : StoreState) (after : Standing) (old new : List ℕ) : Type 0 where

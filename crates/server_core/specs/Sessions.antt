@@ -97,7 +97,7 @@ FeedsSession x h old piece (Err e) h2 new replies = (is_closed old.standing ≡ 
 
 -- A store was fed a session's piece: it stands for the history after it in the same setting, and
 -- the replies are written.
-pub record Fed (x : Setting) (h : History) (old : Session) (piece : List ℕ) (result : Result (Unit {0}) AllocError) (store : StoreState) (new : Session)
+pub record FeedsStore (x : Setting) (h : History) (old : Session) (piece : List ℕ) (result : Result (Unit {0}) AllocError) (store : StoreState) (new : Session)
     (before after : List ℕ) : Type 0 where
   pub history : History
   pub replies : List Frame
@@ -111,7 +111,7 @@ pub record Fed (x : Setting) (h : History) (old : Session) (piece : List ℕ) (r
 -- before it are served, and `after` has their replies.
 pub record IsUnread (x : Setting) (h : History) (old : Session) (piece : List ℕ) (store : StoreState) (new : Session) (before after : List ℕ) : Type 0 where
   pub refusal : AllocError
-  pub fed : Fed x h old piece (Err refusal) store new before after
+  pub fed : FeedsStore x h old piece (Err refusal) store new before after
   pub answer_is : fed.course.1.answer ≡ Err Memory
   pub all : fed.course.1.count ≡ length fed.course.1.frames
 
@@ -233,7 +233,7 @@ FeedsFirst x h old piece (Err e) h2 new replies = (is_closed old.standing ≡ fa
 
 -- A store was fed the first frame of a session's piece: it stands for the history after it in the
 -- same setting, and the reply is written.
-pub record FedFirst (x : Setting) (h : History) (old : Session) (piece : List ℕ) (result : Result ℕ AllocError) (store : StoreState) (new : Session)
+pub record FeedsStoreFirst (x : Setting) (h : History) (old : Session) (piece : List ℕ) (result : Result ℕ AllocError) (store : StoreState) (new : Session)
     (before after : List ℕ) : Type 0 where
   pub history : History
   pub replies : List Frame

@@ -12,7 +12,7 @@ ghost use Rattle.pir_schemes.specs.Plans.{profile_of};
 ghost use Rattle.pir_schemes.specs.Retrievals.{answer_words};
 ghost use Rattle.digit_pack.specs.Layout.{digit_rows};
 ghost use Rattle.version_store.specs.Editions.{version_shape};
-ghost use Rattle.server_core.specs.Serving.{setting_of, has_part, hint_part, most_changes};
+ghost use Rattle.server_core.specs.Serving.{setting_of, has_part, hint_part, most_entry_bytes};
 ghost use Rattle.server_core.specs.Serving.{named_hint_rows, words_asked, words_answered, hint_row};
 ghost use Rattle.server_core.specs.Serving.{HasRoom, IsRowBuffers};
 ghost use Rattle.version_store.specs.Buffers.{scheme_answered, IsAnswerBuffers};
@@ -157,7 +157,7 @@ pub fn put_no_delta<K: Kernel>(store: &Store<K>, out: &mut Vec<u8>)
 /// How many bytes the entries of changed records may have in a reply: no more than fit into a
 /// frame, and an eighth of the hint's.
 pub fn most_changes<K: Kernel>(store: &Store<K>) -> usize
-    ensures value { result ≡ most_changes (setting_of store.now) }
+    ensures value { result ≡ most_entry_bytes (setting_of store.now) }
     ensures short { result ≤ 16777196 }
 {
     let hint = store.layout().rows() * store.dimension();

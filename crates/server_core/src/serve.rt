@@ -11,8 +11,8 @@ ghost use Rattle.pir_schemes.specs.Schemes.{scheme_byte};
 ghost use Rattle.pir_schemes.specs.Retrievals.{answer_words};
 ghost use Rattle.version_store.specs.Histories.{History, StandsFor};
 ghost use Rattle.server_core.specs.Serving.{setting_of, is_wide_setting, is_publisher_key};
-ghost use Rattle.server_core.specs.Serving.{is_reader_key, outcome_of_frame, words_asked, HasRoom};
-ghost use Rattle.server_core.specs.Serving.{HasOutcome, Serves, ServedAll, BrokenOff, IsFull};
+ghost use Rattle.server_core.specs.Serving.{is_reader_key, after_frame, words_asked, HasRoom};
+ghost use Rattle.server_core.specs.Serving.{HasAfterFrame, Serves, ServedAll, BrokenOff, IsFull};
 ghost use Rattle.server_core.specs.Serving.{MayPublish, PublishesIf};
 
 use crate::replies::{
@@ -87,8 +87,8 @@ fn serve_hint_ask<K: Kernel>(
         Serves (setting_of store.now) h standing
         (HintAsk scheme version part) store.now standing out.old.items out.new.items }
     ensures never_refused_with_room { HasRoom 262162 out.old → (h : History) →
-        StandsFor store.now h → HasOutcome (setting_of store.now)
-        (outcome_of_frame (setting_of store.now) h standing (HintAsk scheme version part))
+        StandsFor store.now h → HasAfterFrame (setting_of store.now)
+        (after_frame (setting_of store.now) h standing (HintAsk scheme version part))
         store.now standing out.old.items out.new.items }
 {
     if !standing.is_welcome() {
@@ -149,7 +149,7 @@ pub fn has_wide_frames<K: Kernel>(store: &Store<K>) -> bool
     is_wide(store.plan().form)
 }
 
-/// Gives the records that have changed since a version, if the database is wide; no other stream
+/// Gives the records that have changed since a version, if the store is wide; no other stream
 /// has this frame. Returns the standing after it.
 #[tactic(auto, using(crate::proofs::Granted::changes_granted))]
 fn serve_changes_ask<K: Kernel>(

@@ -153,8 +153,8 @@ impl<K: Kernel> ServerCore<K> {
     /// Whether a piece of the stream of this number's session makes its next frame a publication
     /// that is made unless memory is refused: the session is open and the publisher's, the bytes
     /// that it keeps and then the piece begin with the frame Publish, there is something to
-    /// publish, and a number is left for one more version. So feeding the piece publishes nothing
-    /// if this is false. It takes no memory.
+    /// publish, and a number is left for one more version. So `feed_frame` of the piece publishes
+    /// nothing if this is false; `feed` may, by a later frame. Takes no memory.
     pub fn publishes_next(&self, id: u64, piece: &[u8]) -> bool
         ensures { IsTrue result ↔ PublishesNext self.now id piece.now }
     {

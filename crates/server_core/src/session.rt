@@ -9,7 +9,8 @@ ghost use Rattle.frame_codec.specs.Frames.{IsFrame, encoding};
 ghost use Rattle.version_store.specs.Histories.{History, StandsFor};
 ghost use Rattle.server_core.specs.Serving.{setting_of, is_closed, IsFull, MayPublish, PublishesIf};
 ghost use Rattle.server_core.specs.Sessions.{new_session, frames_taken, bytes_used, reading_end};
-ghost use Rattle.server_core.specs.Sessions.{HasTaken, Ended, Fed, FedFirst, ServedFrames};
+ghost use Rattle.server_core.specs.Sessions.{HasTaken, Ended, FeedsStore, FeedsStoreFirst};
+ghost use Rattle.server_core.specs.Sessions.{ServedFrames};
 ghost use Rattle.server_core.specs.Sessions.{ServedOpen, StoppedFrames, IsUnjudged, HasWordsNext};
 ghost use Rattle.server_core.specs.Sessions.{IsComing, IsUnread, IsFirstUnread, WouldAnswer};
 ghost use Rattle.server_core.specs.Sessions.{WouldPublish};
@@ -145,8 +146,8 @@ impl Session {
         out: &mut Vec<u8>,
     ) -> Result<(), AllocError>
         ensures fed { (h : History) → StandsFor store.old h →
-            Fed (setting_of store.old) h self.old piece.now result store.new self.new out.old.items
-            out.new.items }
+            FeedsStore (setting_of store.old) h self.old piece.now result store.new self.new
+            out.old.items out.new.items }
         ensures full { (h : History) → StandsFor store.old h → OnErr result (IsFull out.new ⊎
             IsUnread (setting_of store.old) h self.old piece.now store.new self.new out.old.items
             out.new.items) }
@@ -180,7 +181,7 @@ impl Session {
         out: &mut Vec<u8>,
     ) -> Result<usize, AllocError>
         ensures fed { (h : History) → StandsFor store.old h →
-            FedFirst (setting_of store.old) h self.old piece.now result store.new self.new
+            FeedsStoreFirst (setting_of store.old) h self.old piece.now result store.new self.new
             out.old.items out.new.items }
         ensures within { IfOk result (λ count. count ≤ length piece.now) }
         ensures some { IfOk result (λ count. 0 < length piece.now → 0 < count) }

@@ -5,13 +5,13 @@ ghost use Rattle.version_store.specs.Openings.{IsSound};
 
 use crate::causes::failed_at;
 use crate::files::{
-    KeptFile, OpeningOf, OwnFile, digest_of, kept_file, replace_failure, write_file,
+    FileWithLog, OpeningOf, OwnFile, digest_of, kept_file, replace_failure, write_file,
 };
 use crate::logs::{OwnLog, log_failure, replay_failure};
 use command_words::{Failed, Failure, printed};
 use log_replay::{earlier_count, replay_first};
 use publication_log::{Publications, ReadLog, read_log_file, relinked, remove_other_logs};
-use safe_files::{Bytes, FileSystem, replace_file};
+use safe_files::{BytesInMemory, FileSystem, replace_file};
 use std::fs;
 
 /// Puts all publications of a file's log into its snapshot, but the last 16, and prints the version
@@ -74,7 +74,7 @@ fn compact_own<R: FileSystem>(rt: &R, file: &mut OwnFile<'_, R>) -> Result<Compa
 }
 
 // What a file has that is kept no longer, with so many publications after its snapshot.
-fn compacted_to(kept: KeptFile, after: usize) -> Compacted {
+fn compacted_to(kept: FileWithLog, after: usize) -> Compacted {
     let version = kept.read.opening.version();
     drop(kept);
     Compacted { version, after }
@@ -84,7 +84,7 @@ fn compacted_to(kept: KeptFile, after: usize) -> Compacted {
 fn compact_both<R: FileSystem>(
     rt: &R,
     file: &mut OwnFile<'_, R>,
-    kept: KeptFile,
+    kept: FileWithLog,
     log: &ReadLog,
 ) -> Result<Compacted, Failure>
     requires { IsSound kept.read.opening.header kept.read.opening.bytes }
@@ -107,9 +107,9 @@ fn compact_both<R: FileSystem>(
 pub fn compacted_past<R: FileSystem>(
     rt: &R,
     file: &mut OwnFile<'_, R>,
-    kept: KeptFile,
+    kept: FileWithLog,
     limit: usize,
-) -> Result<KeptFile, Failure>
+) -> Result<FileWithLog, Failure>
     requires version { kept.read.has.version ≡ kept.read.opening.header.version }
     requires sound { IsSound kept.read.opening.header kept.read.opening.bytes }
     ensures version { IfOk result (λ it. it.read.has.version ≡ it.read.opening.header.version) }
@@ -136,10 +136,10 @@ pub fn compacted_past<R: FileSystem>(
 fn shortened_past<R: FileSystem>(
     rt: &R,
     file: &mut OwnFile<'_, R>,
-    kept: KeptFile,
+    kept: FileWithLog,
     log: &ReadLog,
     limit: usize,
-) -> Result<KeptFile, Failure>
+) -> Result<FileWithLog, Failure>
     requires version { kept.read.has.version ≡ kept.read.opening.header.version }
     requires sound { IsSound kept.read.opening.header kept.read.opening.bytes }
     ensures version { IfOk result (λ it. it.read.has.version ≡ it.read.opening.header.version) }
@@ -173,9 +173,9 @@ fn read_own<R: FileSystem>(rt: &R, own: &OwnLog) -> Result<Option<ReadLog>, Fail
 fn shortened<R: FileSystem>(
     rt: &R,
     file: &mut OwnFile<'_, R>,
-    kept: KeptFile,
+    kept: FileWithLog,
     log: &ReadLog,
-) -> Result<KeptFile, Failure>
+) -> Result<FileWithLog, Failure>
     requires sound { IsSound kept.read.opening.header kept.read.opening.bytes }
     ensures version { IfOk result (λ it. it.read.has.version ≡ it.read.opening.header.version) }
     ensures sound { IfOk result (λ it. IsSound it.read.opening.header it.read.opening.bytes) }
@@ -193,7 +193,7 @@ fn shortened<R: FileSystem>(
     write_log(rt, &own, publications.without_first(earlier))?;
     let has = write_file(rt, file, &content)?;
     remove_other_logs(rt, file.name(), own.name.as_str());
-    Ok(KeptFile::of(opening, digest, has, own))
+    Ok(FileWithLog::of(opening, digest, has, own))
 }
 
 // Writes a log of these publications.
@@ -203,7 +203,7 @@ fn write_log<R: FileSystem>(
     publications: Publications<'_>,
 ) -> Result<(), Failure> {
     let bytes = relinked(rt.alloc(), &own.header, publications)?;
-    match replace_file(rt, own.name.as_str(), &Bytes(&bytes)) {
+    match replace_file(rt, own.name.as_str(), &BytesInMemory(&bytes)) {
         Ok(()) => Ok(()),
         Err(fault) => Err(replace_failure(fault)),
     }

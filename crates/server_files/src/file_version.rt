@@ -13,17 +13,17 @@ ghost use Rattle.safe_files.specs.Steps.{Replaces, Syncs, SyncsFolder};
 ghost use Rattle.sha2.specs.Sha256.{sha256};
 ghost use Rattle.snapshot_file.specs.Snapshots.{IsSnapshot, hashed_bytes, snapshot_bytes};
 ghost use Rattle.publication_log.specs.Publications.{Published};
-ghost use Rattle.publication_log.specs.Entries.{entry, chain_bytes};
+ghost use Rattle.publication_log.specs.Entries.{log_entry, chain_bytes};
 ghost use Rattle.publication_log.specs.Logs.{AreNext, bodies_of};
 ghost use Rattle.version_store.specs.Openings.{IsSound};
 ghost use Rattle.log_replay.specs.Replays.{HasNoDraft, replayed_all};
 ghost use Rattle.log_replay.specs.Laws.{AreRecordsReplayedAll};
-ghost use Rattle.publication_log.specs.Steps.{Appends as AppendsEntry, Cuts};
+ghost use Rattle.publication_log.specs.Steps.{AppendsToLog as AppendsEntry, Cuts};
 
-use crate::progress::{Progress, Watched};
+use crate::progress::{ReadProgress, WatchedReader};
 use log_replay::{ReplayFault, replay_all, replay_first};
 use publication_log::{
-    AppendFault, CutFault, Disk as LogDisk, Log, LogEnd, PublicationBuilder, Publications,
+    AppendDisk, AppendFault, CutFault, Log, LogEnd, PublicationBuilder, Publications,
 };
 use safe_files::{Content, ContentFault, Disk, ReplaceFault, SettleFault, replace, settle};
 use session_core::{Lanes, SnapshotFault, Store};
@@ -96,7 +96,7 @@ pub fn read_version<F: Read + Write + Drop, D: Disk<File = F>>(
     alloc: Global,
     disk: &mut D,
     file: F,
-    progress: Option<Progress<'_>>,
+    progress: Option<ReadProgress<'_>>,
 ) -> Result<(ReadVersion, F), VersionFault>
     ensures version { IfOk result (λ it. it.0.has.version ≡ it.0.opening.header.version) }
     ensures sound { IfOk result (λ it.
@@ -109,7 +109,7 @@ pub fn read_version<F: Read + Write + Drop, D: Disk<File = F>>(
     ensures settled { IfOk result (λ it. FoldsTo D.does disk.old
         (Syncs (F.contents it.1) ∷ SyncsFolder ∷ []) disk.new) }
 {
-    let mut watched = Watched::new(file, progress);
+    let mut watched = WatchedReader::new(file, progress);
     let (opening, digest) = match Opening::read(alloc, &mut watched) {
         Ok(both) => both,
         Err(fault) => return Err(VersionFault::Snapshot(fault)),
@@ -193,13 +193,13 @@ pub fn replay_version(
 /// # Errors
 ///
 /// Those of [`Log::append`].
-pub fn append_version<D: LogDisk>(
+pub fn append_version<D: AppendDisk>(
     alloc: Global,
     log: &mut Log<D>,
     publication: &PublicationBuilder,
 ) -> Result<FileVersion, AppendFault>
     requires { publication.now.version ≡ log.old.version + 1 }
-    ensures steps { AppendsEntry D.does (entry log.old.link publication.now.body.items)
+    ensures steps { AppendsEntry D.does (log_entry log.old.link publication.now.body.items)
         log.old.disk result log.new.disk }
     ensures version { IfOk result (λ it. it.version ≡ publication.now.version) }
     ensures log { OnOk result (log.new.version ≡ publication.now.version) }
@@ -218,7 +218,7 @@ pub fn append_version<D: LogDisk>(
 /// # Errors
 ///
 /// Those of [`Log::take_back`].
-pub fn take_back_version<D: LogDisk>(
+pub fn take_back_version<D: AppendDisk>(
     log: &mut Log<D>,
     end: &LogEnd,
 ) -> Result<FileVersion, CutFault>

@@ -15,7 +15,7 @@ use crate::file_version::{
 };
 use crate::last_bytes::LastBytes;
 use crate::logs::{OwnLog, log_failure, replay_failure};
-use crate::progress::{InputSize, Progress};
+use crate::progress::{InputSize, ReadProgress};
 use crate::reading_in::{Unwritten, how_unwritten, replace_read};
 use command_words::Failure;
 use log_replay::earlier_count;
@@ -182,20 +182,20 @@ impl<'a, R: FileSystem> OwnFile<'a, R> {
 
 /// A snapshot that a file has, and the log beside it.
 #[derive(Drop)]
-pub struct KeptFile {
+pub struct FileWithLog {
     /// What was read of the file.
     pub read: ReadVersion,
     /// Its log.
     pub own: OwnLog,
 }
 
-impl KeptFile {
+impl FileWithLog {
     /// What was read of a snapshot, its digest, the version that the file has, and its log.
-    pub fn of(opening: Opening, digest: [u8; 32], has: FileVersion, own: OwnLog) -> KeptFile
+    pub fn of(opening: Opening, digest: [u8; 32], has: FileVersion, own: OwnLog) -> FileWithLog
         ensures opening { result.read.opening ≡ opening }
         ensures version { result.read.has ≡ has }
     {
-        KeptFile {
+        FileWithLog {
             read: ReadVersion {
                 opening,
                 digest,
@@ -216,8 +216,8 @@ impl KeptFile {
 pub fn kept_file<R: FileSystem>(
     rt: &R,
     file: &mut OwnFile<'_, R>,
-    progress: Option<Progress<'_>>,
-) -> Result<KeptFile, Failure>
+    progress: Option<ReadProgress<'_>>,
+) -> Result<FileWithLog, Failure>
     ensures sound { IfOk result (λ it. IsSound it.read.opening.header it.read.opening.bytes) }
     ensures version { IfOk result (λ it. it.read.has.version ≡ it.read.opening.header.version) }
 {
@@ -231,16 +231,16 @@ pub fn kept_file<R: FileSystem>(
     };
     let header = read.opening.header();
     let own = OwnLog::of(rt.alloc(), file.name(), &header, read.digest)?;
-    Ok(KeptFile { read, own })
+    Ok(FileWithLog { read, own })
 }
 
 /// What reports on the reading of a file, a line each second; nothing if the system has no clock.
-pub fn progress_of_file<'a>(rt: &'a HostRuntime, name: &str) -> Option<Progress<'a>> {
+pub fn progress_of_file<'a>(rt: &'a HostRuntime, name: &str) -> Option<ReadProgress<'a>> {
     let whole = match fs::metadata(rt, name) {
         Ok(found) => InputSize::Bytes(found.len()),
         Err(_) => InputSize::Unknown,
     };
-    Progress::new(rt, whole)
+    ReadProgress::new(rt, whole)
 }
 
 /// The store of a snapshot that a file has, after the publications of its log, and the version that

@@ -23,12 +23,12 @@ pub use causes::{failed_at, not_listening};
 pub use compacting::{Compacted, compact_file, compact_pair, compacted_past};
 pub use file_version::{FileVersion, ReadVersion, Versioned, append_version, take_back_version};
 pub use files::{
-    KeptFile, OwnFile, RecordsOf, VersionOf, kept_file, migrate_failure, progress_of_file,
+    FileWithLog, OwnFile, RecordsOf, VersionOf, kept_file, migrate_failure, progress_of_file,
     snapshot_in, store_after, widen_failure, write_anew, write_read,
 };
 pub use logs::{BAD_LOG, OwnLog, log_failure};
 pub use opening::{OpenPair, open_pair};
 pub use pairs::{LogSize, Whole, whole_of};
-pub use progress::{InputSize, Pace, Progress, Watched};
+pub use progress::{InputSize, Pace, ReadProgress, WatchedReader};
 pub use reading_in::{InputFault, Unwritten};
 pub use saving::LogSaver;

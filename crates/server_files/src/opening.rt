@@ -8,7 +8,7 @@ use crate::compacting::compacted_past;
 use crate::file_version::ReadVersion;
 use crate::files::{OwnFile, kept_file, store_after};
 use crate::logs::{BAD_LOG, log_failure};
-use crate::progress::Progress;
+use crate::progress::ReadProgress;
 use crate::saving::LogSaver;
 use command_words::Failure;
 use publication_log::{LogFile, OpenedLog, open_log};
@@ -41,7 +41,7 @@ pub fn open_pair<R: FileSystem>(
     rt: &R,
     file: &mut OwnFile<'_, R>,
     limit: usize,
-    progress: Option<Progress<'_>>,
+    progress: Option<ReadProgress<'_>>,
 ) -> Result<OpenPair<R::File>, Failure>
     ensures sound { IfOk result (λ it. IsSound it.read.opening.header it.read.opening.bytes) }
 {

@@ -80,20 +80,20 @@ pub enum InputSize {
 
 /// How much of an input has been read.
 #[derive(Drop)]
-pub struct Progress<'a> {
+pub struct ReadProgress<'a> {
     pace: Pace<'a>,
     whole: InputSize,
     bytes: u64,
     lines: u64,
 }
 
-impl<'a> Progress<'a> {
+impl<'a> ReadProgress<'a> {
     /// Of an input of this size nothing has been read. None if the system has no clock.
-    pub fn new(rt: &'a HostRuntime, whole: InputSize) -> Option<Progress<'a>> {
+    pub fn new(rt: &'a HostRuntime, whole: InputSize) -> Option<ReadProgress<'a>> {
         let Some(pace) = Pace::new(rt) else {
             return None;
         };
-        Some(Progress {
+        Some(ReadProgress {
             pace,
             whole,
             bytes: 0,
@@ -152,29 +152,29 @@ fn progress_line(alloc: Global, bytes: u64, left: Option<u128>) -> Result<String
 
 /// A reader whose reads are counted, and told of if that is wanted.
 #[derive(Drop)]
-pub struct Watched<'a, R> {
+pub struct WatchedReader<'a, R> {
     reader: R,
-    progress: Option<Progress<'a>>,
+    progress: Option<ReadProgress<'a>>,
 }
 
-impl<'a, R: Read> Watched<'a, R> {
+impl<'a, R: Read> WatchedReader<'a, R> {
     /// A reader, and what reports on it, if anything does.
-    pub fn new(reader: R, progress: Option<Progress<'a>>) -> Watched<'a, R>
+    pub fn new(reader: R, progress: Option<ReadProgress<'a>>) -> WatchedReader<'a, R>
         ensures { result.reader ≡ reader }
     {
-        Watched { reader, progress }
+        WatchedReader { reader, progress }
     }
 
     /// The reader, with what it has left.
     pub fn into_reader(self) -> R
         ensures { result ≡ self.entry.reader }
     {
-        let Watched { reader, .. } = self;
+        let WatchedReader { reader, .. } = self;
         reader
     }
 }
 
-impl<R: Read> Read for Watched<'_, R> {
+impl<R: Read> Read for WatchedReader<'_, R> {
     ghost remaining = { λ watched. R.remaining watched.reader };
 
     fn read(&mut self, buffer: &mut [u8]) -> io::Result<usize> {

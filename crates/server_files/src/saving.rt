@@ -6,21 +6,21 @@ ghost use Rattle.std.specs.Prelude.{true};
 use crate::file_version::{FileVersion, append_version, take_back_version};
 use connection_turns::{AppendFailed, SaveFailed};
 use log_replay::draft_publication;
-use publication_log::{AppendFault, Disk, Log, LogEnd};
+use publication_log::{AppendDisk, AppendFault, Log, LogEnd};
 use session_core::{Lanes, Store};
 use std::alloc::Global;
 
 /// Appends publications to the log of a snapshot file. What it counts as saved is what file and log
 /// have.
 #[derive(Drop)]
-pub struct LogSaver<D: Disk + Drop> {
+pub struct LogSaver<D: AppendDisk + Drop> {
     log: Log<D>,
     has: FileVersion,
     // Where the log ended before the last publication that was appended.
     before: LogEnd,
 }
 
-impl<D: Disk + Drop> LogSaver<D> {
+impl<D: AppendDisk + Drop> LogSaver<D> {
     ghost use Rattle.server_files.specs.Saved.{saved_version};
 
     /// One for the log that a file has, and the version that both have; `None` if the log has

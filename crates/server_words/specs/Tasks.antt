@@ -4,7 +4,7 @@ use Rattle.std.specs.Str.Parse.{IsNumeral, digits_value}
 use Rattle.clap.specs.declared.parser.matches.Found.{Found}
 use Rattle.clap.specs.Matches.{first_value, one_text}
 use Rattle.command_words.specs.declared.secrets.Secret.{Secret}
-use Rattle.command_words.specs.Secrets.{IsSecretOf}
+use Rattle.command_words.specs.Given.{IsNumberGiven, IsNumberIfGiven, IsSecretGiven, IsFlagGiven}
 use Rattle.service_watch.specs.declared.draft_life.DraftLife.{DraftLife}
 use Rattle.service_watch.specs.declared.draft_life.DraftLife.TheVariants.{Publication, Session}
 use Rattle.service_watch.specs.declared.entries.LogFormat.{LogFormat}
@@ -17,30 +17,11 @@ use Rattle.server_words.specs.declared.command_line.Rekeying.{Rekeying}
 use Rattle.server_words.specs.declared.command_line.Serving.{Serving}
 use Rattle.server_words.specs.declared.run_line.RunOptions.{RunOptions}
 
--- what was given for a name is this number in decimal digits
-abbrev pub IsNumberGiven : Found → List ℕ → ℕ → Type 0
-IsNumberGiven found name n = MatchOption (first_value found name) ⊥ (λ text. IsNumeral 10 text × (digits_value 10 text ≡ n))
-
 -- what was given for a name is this number in decimal digits, or nothing was given and it is the
 -- usual one
 abbrev pub IsNumberOr : ℕ → Found → List ℕ → ℕ → Type 0
 IsNumberOr usual found name n =
     MatchOption (first_value found name) (n ≡ usual) (λ text. IsNumeral 10 text × (digits_value 10 text ≡ n))
-
--- what was given for a name is this secret
-abbrev pub IsSecretGiven : Found → List ℕ → Secret → Type 0
-IsSecretGiven found name secret = MatchOption (first_value found name) ⊥ (λ text. IsSecretOf text secret)
-
--- whether a flag was given for a name
-abbrev pub IsFlagGiven : Found → List ℕ → Bool → Type 0
-IsFlagGiven found name flag =
-    (one_text found name ≡ None → flag ≡ false) × (one_text found name ≡ Some (codes "true") → flag ≡ true)
-
--- what was given for a name is this number in decimal digits, or nothing was given and there is
--- none
-abbrev pub IsNumberIf : Found → List ℕ → Option ℕ → Type 0
-IsNumberIf found name n =
-    MatchOption (first_value found name) (n ≡ None) (λ text. IsNumeral 10 text × (n ≡ Some (digits_value 10 text)))
 
 -- a new store, as the options of `make` ask for it, but whether it must be new and whether it is
 -- said how much was read
@@ -49,7 +30,7 @@ ReadsMake found making =
     (first_value found (codes "out") ≡ Some making.out.now) × IsNumberOr 1 found (codes "form") making.form
     × IsFlagGiven found (codes "wide") making.wide
     × IsNumberGiven found (codes "width") making.width × IsNumberGiven found (codes "record") making.record_len
-    × IsNumberGiven found (codes "groups") making.groups × IsNumberIf found (codes "count") making.count
+    × IsNumberGiven found (codes "groups") making.groups × IsNumberIfGiven found (codes "count") making.count
     × IsSecretGiven found (codes "seed") making.seed
     × IsSecretGiven found (codes "key") making.key
 
@@ -103,7 +84,7 @@ ReadsMost found most =
 -- how many connections one address may have: the number given by either name, or none
 abbrev pub ReadsMostPerPeer : Found → Option ℕ → Type 0
 ReadsMostPerPeer found most =
-    MatchOption (first_value found (codes "max-connections-per-peer")) (IsNumberIf found (codes "most-per-peer") most)
+    MatchOption (first_value found (codes "max-connections-per-peer")) (IsNumberIfGiven found (codes "most-per-peer") most)
     (λ text. IsNumeral 10 text × (most ≡ Some (digits_value 10 text)))
 
 -- connections side by side, as those of `run` do, but the addresses, whether it is quiet, and

@@ -204,8 +204,9 @@ const SHOW: CommandText = CommandText {
         have and the longest that one has; the bits of a digit; the records in a\n\
         column; the rows and columns of digits; the words of a secret; for each scheme the bytes \
         of the words of a hint, a query\n\
-        and an answer; and for each scheme whether every retrieval is certain to give its record, \
-        or depends on the noise drawn.\n\n\
+        and an answer; for each scheme whether every retrieval is certain to give its record, \
+        or depends on the noise drawn;\n\
+        and if there is a log, how many publications it has and how many bytes.\n\n\
         Example: pir_server show --file two.pir\n\n\
         With --verbose a fault has a second line, 'cause: TEXT', that says what failed and where.",
     arguments: &[

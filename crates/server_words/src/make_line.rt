@@ -2,7 +2,8 @@
 
 ghost use Rattle.std.specs.Prelude.{IfOk, codes};
 ghost use Rattle.clap.specs.Matches.{found_of};
-ghost use Rattle.server_words.specs.Tasks.{IsNumberIf, IsNumberOr, ReadsMake};
+ghost use Rattle.command_words.specs.Given.{IsNumberIfGiven};
+ghost use Rattle.server_words.specs.Tasks.{IsNumberOr, ReadsMake};
 
 use crate::command_line::{KEY_TAKES, OUT_TAKES, SEED_TAKES};
 use crate::run_line::{number_if, number_or};
@@ -171,7 +172,7 @@ pub fn form_of<'a>(found: &ArgMatches<'a>) -> Result<u8, BadLine<'a>>
 ///
 /// `Given` if it is no number from 1 to 4294967295.
 pub fn count_of<'a>(found: &ArgMatches<'a>) -> Result<Option<u32>, BadLine<'a>>
-    ensures { IfOk result (IsNumberIf (found_of found.now) (codes "count")) }
+    ensures { IfOk result (IsNumberIfGiven (found_of found.now) (codes "count")) }
 {
     match number_if(found, "count", u64::from(u32::MAX), COUNT_TAKES)? {
         Some(count) => Ok(Some(count as u32)),

@@ -2,7 +2,8 @@
 
 ghost use Rattle.std.specs.Prelude.{◌≤◌, IfOk, IfSome};
 ghost use Rattle.clap.specs.Matches.{found_of};
-ghost use Rattle.server_words.specs.Tasks.{IsNumberIf, IsNumberOr, ReadsDraft, ReadsFormat};
+ghost use Rattle.command_words.specs.Given.{IsNumberIfGiven};
+ghost use Rattle.server_words.specs.Tasks.{IsNumberOr, ReadsDraft, ReadsFormat};
 ghost use Rattle.server_words.specs.Tasks.{ReadsGrace, ReadsMost, ReadsMostPerPeer, ReadsRun};
 
 use clap::ArgMatches;
@@ -93,16 +94,15 @@ pub const RUN: CommandText = CommandText {
     name: "run",
     about: "Serves a snapshot file, many connections side by side, until it is killed or, with \
         --until-eof, standard input ends",
-    example: "Prints 'listening ADDR:PORT' once it listens, and 'status ADDR:PORT' after that with \
-        --status. Before that it makes the hints, first SimplePIR's and then DoublePIR's: with \
-        --progress standard error has lines 'input: BYTES bytes, SECONDS s left' of the file, and \
-        'hint: K of ALL rows, SECONDS s left' of either hint. A connection that ends with a fault \
-        is reported on standard error,\n\
-        as 'connection: NAME', and the others go on. A publication is acknowledged only once its \
-        log has it on the disk; if it\n\
-        can't be appended the connection is closed, and the version before is served on. What is \
-        sent is not encrypted: listen on 127.0.0.1 or [::1] unless a tunnel or a proxy\n\
-        stands before the port.\n\n\
+    example: "Prints 'listening ADDR:PORT' once it listens, and 'status ADDR:PORT' after that\n\
+        with --status. Before that it makes the hints, first SimplePIR's and then DoublePIR's:\n\
+        with --progress standard error has lines 'input: BYTES bytes, SECONDS s left' of the\n\
+        file, and 'hint: K of ALL rows, SECONDS s left' of either hint. A connection that ends\n\
+        with a fault is reported on standard error, as 'connection: NAME', and the others go on.\n\
+        A publication is acknowledged only once its log has it on the disk; if it can't be\n\
+        appended the connection is closed, and the version before is served on. What is sent is\n\
+        not encrypted: listen on 127.0.0.1 or [::1] unless a tunnel or a proxy stands before the\n\
+        port.\n\n\
         Example: pir_server run --file two.pir --listen 127.0.0.1:7000\n\n\
         With --verbose a fault has a second line, 'cause: TEXT', that says what failed and where.",
     arguments: &[
@@ -303,7 +303,7 @@ pub fn number_if<'a>(
     takes: &'static str,
 ) -> Result<Option<u64>, BadLine<'a>>
     ensures within { IfOk result (λ number. IfSome number (λ n. (1 ≤ n) × (n ≤ most))) }
-    ensures read { IfOk result (IsNumberIf (found_of found.now) name.now) }
+    ensures read { IfOk result (IsNumberIfGiven (found_of found.now) name.now) }
 {
     let Some(text) = found.get_str(name) else {
         return Ok(None);

@@ -1,8 +1,8 @@
 -- Which lines are said, how many in a second, and what they are.
 use Rattle.std.specs.Prelude.{◌+◌, ◌-◌, ◌++◌, ℕ, List, [], Bool, not, ◌&&◌, ◌||◌, Option, None, Some, is_some, option_copied, unwrap_or, cond, codes, decimal, nat_le, nat_lt}
 use Rattle.service_watch.specs.declared.entries.Entry.{Entry}
-use Rattle.service_watch.specs.declared.entries.Event.{Event}
-use Rattle.service_watch.specs.declared.entries.Event.TheVariants.{Accepted, Closed, Refused}
+use Rattle.service_watch.specs.declared.entries.ServiceEvent.{ServiceEvent}
+use Rattle.service_watch.specs.declared.entries.ServiceEvent.TheVariants.{Accepted, Closed, Refused}
 use Rattle.service_watch.specs.declared.entries.LogFormat.{LogFormat}
 use Rattle.service_watch.specs.Entries.{entry_text}
 use Rattle.service_status.specs.declared.lines.Quota.{Quota}
@@ -25,7 +25,7 @@ after_line q = cond (has_line q) (record q { said = q.said + 1 }) q
 
 -- whether an entry of an event is said: of connections nothing if it is quiet, and without a format
 -- only why one was closed
-abbrev pub is_event_said : Bool → Bool → Bool → Event → Bool
+abbrev pub is_event_said : Bool → Bool → Bool → ServiceEvent → Bool
 is_event_said quiet has_format has_cause Accepted = not quiet && has_format
 is_event_said quiet has_format has_cause Refused = not quiet && has_format
 is_event_said quiet has_format has_cause Closed = not quiet && (has_format || has_cause)

@@ -4,11 +4,11 @@ use Rattle.service_watch.specs.declared.figures.Figures.{Figures}
 use Rattle.service_watch.specs.declared.requests.Page.{Page}
 use Rattle.service_watch.specs.declared.requests.Page.TheVariants.{Health, Stopping, Metrics, NotFound, BadMethod, BadRequest}
 use Rattle.service_watch.specs.Requests.{health_text, page_when, response_text}
-use Rattle.service_status.specs.declared.status.visitor.Call.{Call}
-use Rattle.service_status.specs.declared.status.visitor.Call.TheVariants.{Ended, Failed}
+use Rattle.service_status.specs.declared.status.visitor.SocketCall.{SocketCall}
+use Rattle.service_status.specs.declared.status.visitor.SocketCall.TheVariants.{Ended, Failed}
 
 -- a call after which a visitor is over: its peer has ended, or the call failed
-abbrev pub EndsVisit : Call → Type 0
+abbrev pub EndsVisit : SocketCall → Type 0
 EndsVisit Ended = Unit {0}
 EndsVisit Failed = Unit {0}
 EndsVisit _ = ⊥

@@ -13,6 +13,6 @@ mod status;
 mod stopping;
 
 pub use clock::{micros_since, unix_millis};
-pub use lines::{Log, say_line};
+pub use lines::{EventLog, say_line};
 pub use status::{Status, StatusFault, Visitor};
 pub use stopping::{INPUT, InputState, Phase, read_input, watch_input};

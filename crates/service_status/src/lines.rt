@@ -8,7 +8,7 @@ ghost use Rattle.service_status.specs.Lines.{after_line, has_line, is_said, line
 ghost use Rattle.service_status.specs.Lines.{quota_at};
 
 use crate::clock::unix_millis;
-use service_watch::{Entry, Event, LogFormat, ReplyHead, entry_line, moment_text};
+use service_watch::{Entry, LogFormat, ReplyHead, ServiceEvent, entry_line, moment_text};
 use std::alloc::{AllocError, Global};
 use std::net::SocketAddr;
 use std::time::Instant;
@@ -57,7 +57,7 @@ impl Quota {
 
 /// What says why connections are closed, and, in a format, what else happens.
 #[derive(Drop)]
-pub struct Log {
+pub struct EventLog {
     // Nothing is said of connections.
     quiet: bool,
     format: Option<LogFormat>,
@@ -69,10 +69,10 @@ pub struct Log {
     pub all_left_out: u64,
 }
 
-impl Log {
+impl EventLog {
     /// One that has said nothing yet.
-    pub fn new(start: Instant, quiet: bool, format: Option<LogFormat>) -> Log {
-        Log {
+    pub fn new(start: Instant, quiet: bool, format: Option<LogFormat>) -> EventLog {
+        EventLog {
             quiet,
             format,
             start,
@@ -82,8 +82,8 @@ impl Log {
         }
     }
 
-    /// How many lines were left out.
-    pub fn left_out(&self) -> u64
+    /// How many lines were left out in all.
+    pub fn all_left_out(&self) -> u64
         ensures { result ≡ self.now.all_left_out }
     {
         self.all_left_out
@@ -100,7 +100,7 @@ impl Log {
         self.note(
             rt,
             &Entry {
-                event: Event::Closed,
+                event: ServiceEvent::Closed,
                 session,
                 address,
                 what: Some(cause),
@@ -113,7 +113,7 @@ impl Log {
     pub fn note_connection(
         &mut self,
         rt: &HostRuntime,
-        event: Event,
+        event: ServiceEvent,
         session: u64,
         address: SocketAddr,
         code: Option<u64>,
@@ -148,10 +148,10 @@ impl Log {
         ) = reply
         {
             let code = Some(u64::from(first));
-            self.note_connection(rt, Event::Refused, session, address, code);
+            self.note_connection(rt, ServiceEvent::Refused, session, address, code);
         }
         if published.is_some() {
-            self.note_connection(rt, Event::Published, session, address, published);
+            self.note_connection(rt, ServiceEvent::Published, session, address, published);
         }
     }
 
@@ -202,8 +202,8 @@ fn says(quiet: bool, format: Option<LogFormat>, entry: &Entry) -> bool
     ensures { result ≡ is_said quiet format entry.now }
 {
     match entry.event {
-        Event::Accepted | Event::Refused => !quiet && format.is_some(),
-        Event::Closed => !quiet && (format.is_some() || entry.what.is_some()),
+        ServiceEvent::Accepted | ServiceEvent::Refused => !quiet && format.is_some(),
+        ServiceEvent::Closed => !quiet && (format.is_some() || entry.what.is_some()),
         _ => format.is_some(),
     }
 }
@@ -211,7 +211,7 @@ fn says(quiet: bool, format: Option<LogFormat>, entry: &Entry) -> bool
 // The entry that counts the lines that were left out.
 fn left_out_entry(count: u64) -> Entry {
     Entry {
-        event: Event::LeftOut,
+        event: ServiceEvent::LeftOut,
         session: None,
         address: None,
         what: None,

@@ -37,13 +37,13 @@ reply_slot kind first =
     (cond (kind == 0x88) 29 (cond (kind == 0x8a) 46 (cond (kind == 0x8f) (refusal_slot first) 44))))))))
 
 -- where a thing is counted
-abbrev pub slot_of : Counted → ℕ
-slot_of Accepted = 0
-slot_of (Closed why) = cause_slot why
-slot_of (Frame kind) = frame_slot kind
-slot_of (Reply kind first) = reply_slot kind first
-slot_of BytesIn = 18
-slot_of BytesOut = 19
+abbrev pub counter_slot : Counted → ℕ
+counter_slot Accepted = 0
+counter_slot (Closed why) = cause_slot why
+counter_slot (Frame kind) = frame_slot kind
+counter_slot (Reply kind first) = reply_slot kind first
+counter_slot BytesIn = 18
+counter_slot BytesOut = 19
 
 -- what a word says of a number: itself, or the most that it can
 abbrev pub saturating : ℕ → ℕ

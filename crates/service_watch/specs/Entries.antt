@@ -3,13 +3,13 @@ use Rattle.std.specs.Prelude.{ℕ, List, [], ◌++◌, Bool, true, false, Option
 use Rattle.std.specs.Net.Text.{socket_text}
 use Rattle.std.specs.declared.net.socket_addr.SocketAddr.{SocketAddr}
 use Rattle.service_watch.specs.declared.entries.Entry.{Entry}
-use Rattle.service_watch.specs.declared.entries.Event.{Event}
-use Rattle.service_watch.specs.declared.entries.Event.TheVariants.{Listening, Accepted, Closed, Refused, Published, Stopping, Stopped, LeftOut}
+use Rattle.service_watch.specs.declared.entries.ServiceEvent.{ServiceEvent}
+use Rattle.service_watch.specs.declared.entries.ServiceEvent.TheVariants.{Listening, Accepted, Closed, Refused, Published, Stopping, Stopped, LeftOut}
 use Rattle.service_watch.specs.declared.entries.LogFormat.{LogFormat}
 use Rattle.service_watch.specs.declared.entries.LogFormat.TheVariants.{Text, Json}
 
 -- an event's name
-abbrev pub event_name : Event → List ℕ
+abbrev pub event_name : ServiceEvent → List ℕ
 event_name Listening = codes "listening"
 event_name Accepted = codes "accepted"
 event_name Closed = codes "closed"
@@ -20,7 +20,7 @@ event_name Stopped = codes "stopped"
 event_name LeftOut = codes "left_out"
 
 -- whether an event with a cause, or without one, is a warning
-abbrev pub warns_of : Event → Bool → Bool
+abbrev pub warns_of : ServiceEvent → Bool → Bool
 warns_of Refused caused = true
 warns_of LeftOut caused = true
 warns_of Closed caused = caused

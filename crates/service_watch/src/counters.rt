@@ -2,7 +2,7 @@
 
 ghost use Rattle.std.specs.Prelude.{◌≡◌, ◌+◌, ◌++◌, ◌∷◌, ◌<◌, [], List, slice_index, slice_set};
 ghost use Rattle.service_watch.specs.Counts.{Amount, IsTally, cause_slot, frame_slot, refusal_slot};
-ghost use Rattle.service_watch.specs.Counts.{reply_slot, saturating, scheme_offset, slot_of};
+ghost use Rattle.service_watch.specs.Counts.{reply_slot, saturating, scheme_offset, counter_slot};
 
 /// How many things are counted apart.
 pub const SLOTS: usize = 48;
@@ -62,9 +62,10 @@ impl Counters {
     /// Counts a thing that happened, or so much of it.
     pub fn add(&mut self, what: Counted, amount: u64)
         ensures tally { (events : List Amount) → IsTally self.old.counts events →
-            IsTally self.new.counts (events ++ record { slot = slot_of what; much = amount } ∷ []) }
-        ensures exactly { self.new.counts ≡ slice_set self.old.counts (slot_of what)
-            (saturating (slice_index self.old.counts (slot_of what) + amount)) }
+            IsTally self.new.counts
+            (events ++ record { slot = counter_slot what; much = amount } ∷ []) }
+        ensures exactly { self.new.counts ≡ slice_set self.old.counts (counter_slot what)
+            (saturating (slice_index self.old.counts (counter_slot what) + amount)) }
     {
         let slot = what.slot();
         self.counts[slot] = self.counts[slot].saturating_add(amount);
@@ -72,7 +73,7 @@ impl Counters {
 
     /// How often a thing happened, or how much of it.
     pub fn of(&self, what: Counted) -> u64
-        ensures { result ≡ slice_index self.now.counts (slot_of what) }
+        ensures { result ≡ slice_index self.now.counts (counter_slot what) }
     {
         self.counts[what.slot()]
     }
@@ -81,7 +82,7 @@ impl Counters {
 impl Counted {
     // Where it is counted.
     fn slot(self) -> usize
-        ensures slot { result ≡ slot_of self }
+        ensures slot { result ≡ counter_slot self }
         ensures within { result < 48 }
     {
         match self {

@@ -19,7 +19,7 @@ pub enum LogFormat {
 
 /// What happened.
 #[derive(Clone, Copy, Debug, PartialEq, Eq)]
-pub enum Event {
+pub enum ServiceEvent {
     /// The service listens.
     Listening,
     /// A connection was accepted.
@@ -42,7 +42,7 @@ pub enum Event {
 #[derive(Clone, Copy)]
 pub struct Entry {
     /// What happened.
-    pub event: Event,
+    pub event: ServiceEvent,
     /// The number of the session that it happened to.
     pub session: Option<u64>,
     /// The peer's address, or the address that is listened on.
@@ -53,20 +53,20 @@ pub struct Entry {
     pub code: Option<u64>,
 }
 
-impl Event {
+impl ServiceEvent {
     /// Its name in a line.
     pub fn name(self) -> &'static str
         ensures { result.now ≡ event_name self }
     {
         match self {
-            Event::Listening => "listening",
-            Event::Accepted => "accepted",
-            Event::Closed => "closed",
-            Event::Refused => "refused",
-            Event::Published => "published",
-            Event::Stopping => "stopping",
-            Event::Stopped => "stopped",
-            Event::LeftOut => "left_out",
+            ServiceEvent::Listening => "listening",
+            ServiceEvent::Accepted => "accepted",
+            ServiceEvent::Closed => "closed",
+            ServiceEvent::Refused => "refused",
+            ServiceEvent::Published => "published",
+            ServiceEvent::Stopping => "stopping",
+            ServiceEvent::Stopped => "stopped",
+            ServiceEvent::LeftOut => "left_out",
         }
     }
 }
@@ -99,8 +99,8 @@ fn warns(entry: &Entry) -> bool
     ensures { result ≡ is_warning entry.now }
 {
     match entry.event {
-        Event::Refused | Event::LeftOut => true,
-        Event::Closed => entry.what.is_some(),
+        ServiceEvent::Refused | ServiceEvent::LeftOut => true,
+        ServiceEvent::Closed => entry.what.is_some(),
         _ => false,
     }
 }

@@ -17,7 +17,7 @@ mod scans;
 
 pub use counters::{Cause, Counted, Counters};
 pub use draft_life::DraftLife;
-pub use entries::{Entry, Event, LogFormat, entry_line};
+pub use entries::{Entry, LogFormat, ServiceEvent, entry_line};
 pub use figures::{Figures, metrics_text};
 pub use histograms::{BOUND_COUNT, Histogram};
 pub use metrics::{Kind, Sample, push_family};

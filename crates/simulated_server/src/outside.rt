@@ -1,6 +1,6 @@
 //! The disk, and the end of one connection.
 
-use connection_turns::{AppendFailed, Outside, SaveFailed, Stop};
+use connection_turns::{AppendFailed, Outside, SaveFailed, SocketStop};
 use publication_log::LogFile;
 use server_files::LogSaver;
 use session_core::{Lanes, Store};
@@ -41,29 +41,29 @@ impl<F: Write + OpenFile + Drop> Outside<Lanes> for Surroundings<'_, '_, F> {
         self.saver.take_back(store)
     }
 
-    fn read(&mut self, buffer: &mut [u8]) -> Result<usize, Stop> {
+    fn read(&mut self, buffer: &mut [u8]) -> Result<usize, SocketStop> {
         let most = buffer.len();
         match self.network.read(self.end, buffer, self.dice) {
             Moved::Bytes(count) => Ok(count.min(most)),
-            Moved::Later => Err(Stop::Later),
-            Moved::Broken => Err(Stop::Failed),
+            Moved::Later => Err(SocketStop::Later),
+            Moved::Broken => Err(SocketStop::Failed),
         }
     }
 
-    fn write(&mut self, _store: &Store<Lanes>, bytes: &[u8]) -> Result<usize, Stop> {
+    fn write(&mut self, _store: &Store<Lanes>, bytes: &[u8]) -> Result<usize, SocketStop> {
         if bytes.is_empty() {
             return Ok(0);
         }
         if self.files.is_cut() {
-            return Err(Stop::Failed);
+            return Err(SocketStop::Failed);
         }
         match self.network.write(self.end, bytes, self.dice) {
             Ok(Moved::Bytes(count)) if count > 0 => {
                 self.written = self.written.saturating_add(count);
                 Ok(count.min(bytes.len()))
             }
-            Ok(Moved::Bytes(_) | Moved::Later) => Err(Stop::Later),
-            Ok(Moved::Broken) | Err(_) => Err(Stop::Failed),
+            Ok(Moved::Bytes(_) | Moved::Later) => Err(SocketStop::Later),
+            Ok(Moved::Broken) | Err(_) => Err(SocketStop::Failed),
         }
     }
 }

@@ -3,7 +3,7 @@ use Rattle.std.proofs.Common.{◌≡◌, ◌==◌, Bool, true, false, cond, code
 use Rattle.std.proofs.lemmas.List.{length-append, take_all}
 use Rattle.byteorder.specs.Endian.{little_number}
 use Rattle.snapshot_file.specs.declared.snapshot.Header.{Header}
-use Rattle.snapshot_file.specs.Snapshots.{magic, form_bytes, fields_len, number_bytes, header_bytes, IsHeader}
+use Rattle.snapshot_file.specs.Snapshots.{magic, form_bytes, fields_len, snapshot_number, header_bytes, IsHeader}
 use Rattle.snapshot_file.proofs.NumberBytes.{IsBytes, length-number, number_after, bytes_after}
 
 pub length-magic : (form : ℕ) → length (magic form) ≡ 8
@@ -29,11 +29,11 @@ pub header_read : (h : Header) (fields : List ℕ) → IsBytes fields → length
 unfolding header_bytes
 header_read h fields fits len w r g c n v s p =
     let at1 = first_field h.width (magic h.form ++ form_bytes h.form) fields (omega arith) w in
-    let at3 = ap (λ (x : List ℕ). x ++ number_bytes 2 h.record_len) at1 ∙ number_after 2 h.record_len (magic h.form ++ form_bytes h.form) fields 1 fits (omega arith) r in
-    let at5 = ap (λ (x : List ℕ). x ++ number_bytes 2 h.groups) at3 ∙ number_after 2 h.groups (magic h.form ++ form_bytes h.form) fields 3 fits (omega arith) g in
-    let at9 = ap (λ (x : List ℕ). x ++ number_bytes 4 h.count) at5 ∙ number_after 4 h.count (magic h.form ++ form_bytes h.form) fields 5 fits (omega arith) c in
-    let at11 = ap (λ (x : List ℕ). x ++ number_bytes 2 h.dimension) at9 ∙ number_after 2 h.dimension (magic h.form ++ form_bytes h.form) fields 9 fits (omega arith) n in
-    let at19 = ap (λ (x : List ℕ). x ++ number_bytes 8 h.version) at11 ∙ number_after 8 h.version (magic h.form ++ form_bytes h.form) fields 11 fits (omega arith) v in
+    let at3 = ap (λ (x : List ℕ). x ++ snapshot_number 2 h.record_len) at1 ∙ number_after 2 h.record_len (magic h.form ++ form_bytes h.form) fields 1 fits (omega arith) r in
+    let at5 = ap (λ (x : List ℕ). x ++ snapshot_number 2 h.groups) at3 ∙ number_after 2 h.groups (magic h.form ++ form_bytes h.form) fields 3 fits (omega arith) g in
+    let at9 = ap (λ (x : List ℕ). x ++ snapshot_number 4 h.count) at5 ∙ number_after 4 h.count (magic h.form ++ form_bytes h.form) fields 5 fits (omega arith) c in
+    let at11 = ap (λ (x : List ℕ). x ++ snapshot_number 2 h.dimension) at9 ∙ number_after 2 h.dimension (magic h.form ++ form_bytes h.form) fields 9 fits (omega arith) n in
+    let at19 = ap (λ (x : List ℕ). x ++ snapshot_number 8 h.version) at11 ∙ number_after 8 h.version (magic h.form ++ form_bytes h.form) fields 11 fits (omega arith) v in
     let at51 = ap (λ (x : List ℕ). x ++ h.seed) at19 ∙ bytes_after 32 h.seed (magic h.form ++ form_bytes h.form) fields 19 s in
     let at83 = ap (λ (x : List ℕ). x ++ h.publisher) at51 ∙ bytes_after 32 h.publisher (magic h.form ++ form_bytes h.form) fields 51 p in
     let all : take 83 fields ≡ fields = take_all 83 fields (omega arith) in
@@ -53,8 +53,8 @@ length-header h is = simp (length-append, length-number, length-magic h.form, is
 pub header_parts : (h : Header) → IsHeader h → (fields : List ℕ) × (header_bytes h ≡ magic h.form ++ (form_bytes h.form ++ fields))
 unfolding header_bytes
 header_parts h is = (
-  (h.width ∷ []) ++ (number_bytes 2 h.record_len
-      ++ (number_bytes 2 h.groups ++ (number_bytes 4 h.count ++ (number_bytes 2 h.dimension ++ (number_bytes 8 h.version ++ (h.seed ++ h.publisher)))))),
+  (h.width ∷ []) ++ (snapshot_number 2 h.record_len
+      ++ (snapshot_number 2 h.groups ++ (snapshot_number 4 h.count ++ (snapshot_number 2 h.dimension ++ (snapshot_number 8 h.version ++ (h.seed ++ h.publisher)))))),
   simp append_assoc refl,
 )
 

@@ -6,7 +6,7 @@ use Rattle.std.specs.Int.{byte_at, bytes_low_first}
 use Rattle.std.proofs.lemmas.List.{get_or-drop, length-drop}
 use Rattle.byteorder.specs.Endian.{little_from, little_number, little_bytes}
 use Rattle.byteorder.specs.Numbers.{little_from-cons, little_number-reads_back, length-bytes_low_first}
-use Rattle.snapshot_file.specs.Snapshots.{number_bytes}
+use Rattle.snapshot_file.specs.Snapshots.{snapshot_number}
 
 -- each is a byte
 abbrev pub IsBytes : List ℕ → Type 0
@@ -41,18 +41,18 @@ only_bytes (suc n) (b ∷ bytes) fits le =
     ∙ only_bytes n bytes (IsBytes-rest b bytes fits) (omega arith) in
     ap (λ (y : ℕ). bytes_low_first 0 (suc n) y) e ∙ ap (λ (y : ℕ). y ∷ bytes_low_first 1 n (b + 256 * r)) low ∙ ap (λ (ys : List ℕ). b ∷ ys) rest
 
-pub length-number : (n x : ℕ) → length (number_bytes n x) ≡ n
-unfolding number_bytes
+pub length-number : (n x : ℕ) → length (snapshot_number n x) ≡ n
+unfolding snapshot_number
 length-number n x = length-bytes_low_first 0 n x
 
-pub number_back : (n x : ℕ) (more : List ℕ) → x < 256 ^ n → little_number n (number_bytes n x ++ more) ≡ x
-unfolding number_bytes
+pub number_back : (n x : ℕ) (more : List ℕ) → x < 256 ^ n → little_number n (snapshot_number n x ++ more) ≡ x
+unfolding snapshot_number
 number_back n x more h = little_number-reads_back n x more h
 
 -- a number after the bytes before it
 pub number_after : (n x : ℕ) (before fields : List ℕ) (k : ℕ) → IsBytes fields → k + n ≤ length fields → x ≡ little_number n (drop k fields)
-    → before ++ take k fields ++ number_bytes n x ≡ before ++ take (k + n) fields
-unfolding number_bytes
+    → before ++ take k fields ++ snapshot_number n x ≡ before ++ take (k + n) fields
+unfolding snapshot_number
 number_after n x before fields k fits le e =
     let room : n ≤ length (drop k fields) = omega (arith, length-drop k fields) in
     let encoded : little_bytes n x ≡ take n (drop k fields) = ap (little_bytes n) e ∙ only_bytes n (drop k fields) (IsBytes-drop k fields fits) room in

@@ -5,7 +5,7 @@ use Rattle.std.specs.Int.{w32, to_be_bytes}
 use Rattle.byteorder.specs.Endian.{little_number}
 use Rattle.sha2.specs.Sha256.{sha256, digest_bytes}
 use Rattle.snapshot_file.specs.declared.snapshot.Header.{Header}
-use Rattle.snapshot_file.specs.Snapshots.{magic, form_bytes, fields_len, IsForm, number_bytes, header_bytes, hashed_bytes, snapshot_bytes, records_len, IsHeader, IsFile}
+use Rattle.snapshot_file.specs.Snapshots.{magic, form_bytes, fields_len, IsForm, snapshot_number, header_bytes, hashed_bytes, snapshot_bytes, records_len, IsHeader, IsFile}
 use Rattle.snapshot_file.proofs.NumberBytes.{length-number, number_back}
 use Rattle.snapshot_file.proofs.Headers.{length-header, length-magic, header_fields}
 
@@ -24,7 +24,7 @@ cut_back n a b x y lx ly e =
     let len : length a ≡ length b = omega (arith, length-append a x, length-append b y, ap length e) in
     cut_prefix a b x y len e
 
-one_number : (n x y : ℕ) → x < 256 ^ n → y < 256 ^ n → number_bytes n x ≡ number_bytes n y → x ≡ y
+one_number : (n x y : ℕ) → x < 256 ^ n → y < 256 ^ n → snapshot_number n x ≡ snapshot_number n y → x ≡ y
 one_number n x y hx hy e = sym (number_back n x [] hx) ∙ ap (λ (b : List ℕ). little_number n (b ++ [])) e ∙ number_back n y [] hy
 
 one_byte : (x y : ℕ) → x ∷ [] ≡ y ∷ [] → x ≡ y
@@ -85,12 +85,12 @@ unfolding header_bytes
 same_header h k ih ik e =
     let publisher = cut_back 32 _ _ h.publisher k.publisher ih.publisher ik.publisher e in
     let seed = cut_back 32 _ _ h.seed k.seed ih.seed ik.seed publisher.0 in
-    let version = cut_back 8 _ _ (number_bytes 8 h.version) (number_bytes 8 k.version) (length-number 8 h.version) (length-number 8 k.version) seed.0 in
-    let dimension = cut_back 2 _ _ (number_bytes 2 h.dimension) (number_bytes 2 k.dimension) (length-number 2 h.dimension)
+    let version = cut_back 8 _ _ (snapshot_number 8 h.version) (snapshot_number 8 k.version) (length-number 8 h.version) (length-number 8 k.version) seed.0 in
+    let dimension = cut_back 2 _ _ (snapshot_number 2 h.dimension) (snapshot_number 2 k.dimension) (length-number 2 h.dimension)
     (length-number 2 k.dimension) version.0 in
-    let count = cut_back 4 _ _ (number_bytes 4 h.count) (number_bytes 4 k.count) (length-number 4 h.count) (length-number 4 k.count) dimension.0 in
-    let groups = cut_back 2 _ _ (number_bytes 2 h.groups) (number_bytes 2 k.groups) (length-number 2 h.groups) (length-number 2 k.groups) count.0 in
-    let record_len = cut_back 2 _ _ (number_bytes 2 h.record_len) (number_bytes 2 k.record_len) (length-number 2 h.record_len)
+    let count = cut_back 4 _ _ (snapshot_number 4 h.count) (snapshot_number 4 k.count) (length-number 4 h.count) (length-number 4 k.count) dimension.0 in
+    let groups = cut_back 2 _ _ (snapshot_number 2 h.groups) (snapshot_number 2 k.groups) (length-number 2 h.groups) (length-number 2 k.groups) count.0 in
+    let record_len = cut_back 2 _ _ (snapshot_number 2 h.record_len) (snapshot_number 2 k.record_len) (length-number 2 h.record_len)
     (length-number 2 k.record_len) groups.0 in
     let width = cut_back 1 (magic h.form ++ form_bytes h.form) (magic k.form ++ form_bytes k.form) (h.width ∷ []) (k.width ∷ []) refl refl record_len.0 in
     let first = cut_prefix (magic h.form) (magic k.form) (form_bytes h.form) (form_bytes k.form) (length-magic h.form ∙ sym (length-magic k.form)) width.0 in

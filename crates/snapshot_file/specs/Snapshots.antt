@@ -10,8 +10,8 @@ use Rattle.snapshot_file.specs.declared.snapshot.Header.{Header}
 use Rattle.snapshot_file.specs.declared.snapshot.Snapshot.{Snapshot}
 
 -- the n bytes of a number, the lowest first
-unfoldable pub number_bytes : ℕ → ℕ → List ℕ
-number_bytes n x = little_bytes n x
+unfoldable pub snapshot_number : ℕ → ℕ → List ℕ
+snapshot_number n x = little_bytes n x
 
 -- what every snapshot of a form begins with, in ASCII
 unfoldable pub magic : ℕ → List ℕ
@@ -69,11 +69,11 @@ header_bytes h =
     magic h.form
     ++ form_bytes h.form
     ++ (h.width ∷ [])
-    ++ number_bytes 2 h.record_len
-    ++ number_bytes 2 h.groups
-    ++ number_bytes 4 h.count
-    ++ number_bytes 2 h.dimension
-    ++ number_bytes 8 h.version
+    ++ snapshot_number 2 h.record_len
+    ++ snapshot_number 2 h.groups
+    ++ snapshot_number 4 h.count
+    ++ snapshot_number 2 h.dimension
+    ++ snapshot_number 8 h.version
     ++ h.seed
     ++ h.publisher
 

@@ -55,7 +55,7 @@ pub fn form_of(first: [u8; MAGIC_LEN]) -> Option<u8>
 }
 
 /// The bytes of a header.
-#[tactic(auto, unfolding(crate::specs::Snapshots::header_bytes, crate::specs::Snapshots::form_bytes, crate::specs::Snapshots::number_bytes))]
+#[tactic(auto, unfolding(crate::specs::Snapshots::header_bytes, crate::specs::Snapshots::form_bytes, crate::specs::Snapshots::snapshot_number))]
 pub fn header_bytes(alloc: Global, header: &Header) -> Result<Vec<u8>, AllocError>
     ensures { IfOk result (λ bytes. bytes.items ≡ header_bytes header.now) }
 {

@@ -13,7 +13,7 @@ use Rattle.pir_schemes.specs.declared.plan.Plan.{Plan}
 use Rattle.pir_schemes.specs.Plans.{shape_at, digits_at}
 use Rattle.pir_schemes.specs.Retrievals.{hint_matrix}
 use Rattle.hint_update.specs.Logs.{Log, lists_since}
-use Rattle.version_store.specs.Deltas.{wide_row, differs_at, changed_rows, changes_of}
+use Rattle.version_store.specs.Deltas.{padded_row, differs_at, changed_rows, changes_of}
 use Rattle.version_store.proofs.LoggedRows.{union_below, reaches_back, rows_logged, history_rows, rows_as_logged}
 use Rattle.version_store.specs.Histories.{current_version}
 use Rattle.version_store.specs.Laws.{UnchangedRowsStay}
@@ -21,13 +21,13 @@ use Rattle.version_store.proofs.Widened.{same_hint_row}
 use Rattle.version_store.proofs.RowUnions.{is_in, in_range, in_filter}
 
 -- a row that did not change
-kept_row : (old new : WordMatrix) (r : ℕ) → r < new.rows → is_in (changed_rows old new) r ≡ false → wide_row old new old r ≡ wide_row old new new r
+kept_row : (old new : WordMatrix) (r : ℕ) → r < new.rows → is_in (changed_rows old new) r ≡ false → padded_row old new old r ≡ padded_row old new new r
 unfolding changed_rows
 kept_row old new r below gone =
     let both : (differs_at old new r && is_in (range_with_len 0 new.rows) r) ≡ false = sym (in_filter (differs_at old new) (range_with_len 0 new.rows) r) ∙ gone in
     let inside : is_in (range_with_len 0 new.rows) r ≡ true = in_range 0 new.rows r (omega arith) (omega arith) in
-    (bytes_decides (wide_row old new old r) (wide_row old new new r)).0
-    (by (pointwise nat_eq (wide_row old new old r) (wide_row old new new r)) (is_in (range_with_len 0 new.rows) r) both inside)
+    (bytes_decides (padded_row old new old r) (padded_row old new new r)).0
+    (by (pointwise nat_eq (padded_row old new old r) (padded_row old new new r)) (is_in (range_with_len 0 new.rows) r) both inside)
   where
     by : (b c : Bool) → (not b && c) ≡ false → c ≡ true → b ≡ true
     by true c e f = refl

@@ -15,7 +15,7 @@ use Rattle.digit_pack.specs.Digits.{number_of}
 use Rattle.digit_pack.specs.Layout.{Shape, digit_matrix, digit_at, digit_rows, digit_cols, digits_per_record, record_at}
 use Rattle.pir_schemes.specs.declared.plan.Plan.{Plan}
 use Rattle.pir_schemes.specs.Plans.{shape_at, digits_at, slot, slots}
-use Rattle.version_store.specs.Deltas.{wide_row, differs_at, changed_rows}
+use Rattle.version_store.specs.Deltas.{padded_row, differs_at, changed_rows}
 use Rattle.version_store.specs.Editions.{Records, MarksChanges, is_marked, marked_rows}
 use Rattle.version_store.proofs.Widened.{wide_rows}
 
@@ -95,8 +95,8 @@ marked_is_changed old new before after m rows cols count none =
     ap (λ n. filter (is_marked after) (range_with_len 0 n)) (m.count ∙ count)
     ∙ filter_same (is_marked after) (differs_at old new) 0 new.rows (λ r low high.
     let wide = wide_rows old new r cols (omega (arith, rows)) (omega arith) in
-    let decides = bytes_decides (wide_row old new old r) (wide_row old new new r) in
-    opposite (is_marked after r) (pointwise nat_eq (wide_row old new old r) (wide_row old new new r))
+    let decides = bytes_decides (padded_row old new old r) (padded_row old new new r) in
+    opposite (is_marked after r) (pointwise nat_eq (padded_row old new old r) (padded_row old new new r))
     (λ e. decides.1 (wide.0 ∙ sym (m.kept r (omega (arith, rows)) e).1 ∙ sym wide.1))
     (λ e. m.only r (omega (arith, rows)) (none r) (sym wide.1 ∙ sym (decides.0 e) ∙ wide.0)))
 

@@ -17,7 +17,7 @@ use Rattle.record_log.specs.OldRecords.{entries_bytes}
 use Rattle.record_log.proofs.EntriesMove.{entries_move}
 use Rattle.version_store.specs.Editions.{grown}
 use Rattle.version_store.specs.Histories.{AreGrowing, changes_since, current_version, entries_between, reaches_olds}
-use Rattle.version_store.specs.Laws.{ChangesMoveTheHint}
+use Rattle.version_store.specs.Laws.{ChangesSinceMoveTheHint}
 use Rattle.version_store.specs.OldRecords.{kept_olds, slots_with_blanks}
 use Rattle.version_store.proofs.ChangesSince.{at_most, few_records}
 use Rattle.version_store.proofs.Grown.{hint_is, hint-grown, length-grown, slots-grown}
@@ -93,7 +93,7 @@ between_moves p before after ok good old le =
     (omega (arith, length-map after (slot p))) (blanks_long p n n before ok old) (slots_long p n after ok good)
     ∙ sym (hint_is p after)
 
-pub changes_move : ChangesMoveTheHint
+pub changes_move : ChangesSinceMoveTheHint
 unfolding changes_since
 changes_move p h since most entries records ok growing good old answered version =
     let n : ℕ = length h.current in

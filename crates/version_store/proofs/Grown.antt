@@ -31,7 +31,7 @@ use Rattle.pir_schemes.specs.declared.plan.Plan.{Plan}
 use Rattle.pir_schemes.specs.Plans.{IsPlan, shape_at, fits, slot, slots, digits_at, first_public, second_public}
 use Rattle.pir_schemes.specs.Retrievals.{hint_matrix, server_hint}
 use Rattle.snapshot_file.proofs.Pieces.{add_times}
-use Rattle.version_store.specs.Deltas.{wide_row, differs_at, changed_rows}
+use Rattle.version_store.specs.Deltas.{padded_row, differs_at, changed_rows}
 use Rattle.version_store.specs.Drafts.{Changes, FitRecords, bytes_or, change_at, draft_of, grown_to}
 use Rattle.version_store.specs.Editions.{Records, IsMadeTwice, blank, grown}
 use Rattle.version_store.proofs.Versions.{long_records}
@@ -316,8 +316,8 @@ changed-wide old new le rows =
     let e : max old.cols m ≡ m = omega arith in
     let f : max m m ≡ m = omega arith in
     filter_same (differs_at (widened old m) new) (differs_at old new) 0 new.rows (λ r low high.
-    let left : wide_row (widened old m) new (widened old m) r ≡ wide_row old new old r =
+    let left : padded_row (widened old m) new (widened old m) r ≡ padded_row old new old r =
     same_wide (widened old m) (max m m) r (sym f) (omega (arith, rows)) ∙ ap (λ (n : ℕ). row (widened old n) r) (sym e) in
-    let right : wide_row (widened old m) new new r ≡ wide_row old new new r = ap (λ (n : ℕ). row (widened new n) r) (f ∙ sym e) in
-    ap (λ (x : List ℕ). not (pointwise nat_eq x (wide_row (widened old m) new new r))) left
-    ∙ ap (λ (x : List ℕ). not (pointwise nat_eq (wide_row old new old r) x)) right)
+    let right : padded_row (widened old m) new new r ≡ padded_row old new new r = ap (λ (n : ℕ). row (widened new n) r) (f ∙ sym e) in
+    ap (λ (x : List ℕ). not (pointwise nat_eq x (padded_row (widened old m) new new r))) left
+    ∙ ap (λ (x : List ℕ). not (pointwise nat_eq (padded_row old new old r) x)) right)

@@ -8,7 +8,7 @@ use Rattle.pir_schemes.specs.declared.plan.Plan.{Plan}
 use Rattle.pir_schemes.specs.Plans.{shape_at, digits_at, records_held}
 use Rattle.version_store.specs.Deltas.{changed_rows, changes_of}
 use Rattle.version_store.specs.Openings.{held_of, plan_held}
-use Rattle.version_store.specs.Histories.{StoreState, History, StandsFor, current_version, delta_rows, opened, after_edit, after_append, published, held_edited, held_appended, held_published, Change, Edited, Appended, Published, history_after, held_after, undrafted, without_draft}
+use Rattle.version_store.specs.Histories.{StoreState, History, StandsFor, current_version, delta_rows, opened, after_edit, after_append, published, held_edited, held_appended, held_published, StoreChange, Edited, Appended, Published, history_after, held_after, undrafted, without_draft}
 use Rattle.record_log.specs.OldRecords.{OldRecord}
 use Rattle.version_store.specs.OldRecords.{kept_olds, olds_replaced, with_olds}
 use Rattle.version_store.proofs.OldsKept.{one_more}
@@ -110,7 +110,7 @@ held_as_history s h since stands =
     ∙ sym (rows_as_logged p h since)
 
 -- a store represents its history after any changes
-pub run_stands : (changes : List Change) (s : StoreState) (h : History) → StandsFor s h → StandsFor (held_after changes s) (history_after changes h)
+pub run_stands : (changes : List StoreChange) (s : StoreState) (h : History) → StandsFor s h → StandsFor (held_after changes s) (history_after changes h)
 run_stands [] s h stands = stands
 run_stands (Edited i bytes ∷ more) s h stands =
     run_stands more (held_edited i bytes s) (after_edit i bytes h) (edit_stands s (held_edited i bytes s) i bytes refl h stands)

@@ -12,7 +12,7 @@ use Rattle.simple_scheme.specs.Simple.{simple_answer}
 use Rattle.double_scheme.specs.Double.{double_answer, double_query_count}
 use Rattle.double_scheme.specs.Steps.{IsMadeSoFar, IsWholeAt}
 use Rattle.double_scheme.specs.declared.steps.AnswerSteps.{AnswerSteps}
-use Rattle.double_scheme.specs.declared.steps.Stage.TheVariants.{Column}
+use Rattle.double_scheme.specs.declared.steps.AnswerStage.TheVariants.{Column}
 use Rattle.pir_schemes.specs.declared.scheme.Scheme.TheVariants as scheme
 use Rattle.pir_schemes.specs.Plans.{digits_at, second_public}
 use Rattle.pir_schemes.specs.Retrievals.{server_hint, answer_words}
@@ -20,7 +20,7 @@ use Rattle.version_store.specs.Editions.{Records, version_shape}
 use Rattle.version_store.specs.Preparing.{IsMakingFor, IsPrepared}
 use Rattle.version_store.specs.Together.{IsSteppedIf}
 use Rattle.version_store.specs.declared.preparing.Preparation.{Preparation}
-use Rattle.version_store.specs.declared.preparing.Making.TheVariants.{Simple, Double}
+use Rattle.version_store.specs.declared.preparing.AnswerMaking.TheVariants.{Simple, Double}
 use Rattle.version_store.proofs.DoubleLemmas.{server_rows}
 
 -- a SimplePIR answer of which all words are there

@@ -14,7 +14,7 @@ use Rattle.pir_schemes.specs.declared.plan.Plan.{Plan}
 use Rattle.pir_schemes.specs.Plans.{shape_at, digits_at}
 use Rattle.pir_schemes.specs.Retrievals.{hint_matrix}
 use Rattle.simple_scheme.specs.Simple.{hint_of}
-use Rattle.version_store.specs.Deltas.{wide_row}
+use Rattle.version_store.specs.Deltas.{padded_row}
 
 -- a column that there is, and one that there isn't
 pub within : (a : WordMatrix) (i j : ℕ) → j < a.cols → entry_or_zero a i j ≡ entry a i j
@@ -38,7 +38,7 @@ same_wide a m r e lt =
 
 -- two rows of two matrices with as many columns
 pub wide_rows : (old new : WordMatrix) (r : ℕ) → new.cols ≡ old.cols → r < old.rows → r < new.rows →
-    (wide_row old new old r ≡ row old r) × (wide_row old new new r ≡ row new r)
+    (padded_row old new old r ≡ row old r) × (padded_row old new new r ≡ row new r)
 wide_rows old new r e low high =
     (same_wide old (max old.cols new.cols) r (omega (arith, e)) low, same_wide new (max old.cols new.cols) r (omega (arith, e)) high)
 
@@ -63,7 +63,7 @@ hint_spare p records a1 public le =
 
 -- a row of digits that is the same has the same row of the hint
 pub same_hint_row : (p : Plan) (a b : List (List ℕ)) (r : ℕ) → r < digit_rows (shape_at p (length b)) →
-    wide_row (digits_at p a) (digits_at p b) (digits_at p a) r ≡ wide_row (digits_at p a) (digits_at p b) (digits_at p b) r →
+    padded_row (digits_at p a) (digits_at p b) (digits_at p a) r ≡ padded_row (digits_at p a) (digits_at p b) (digits_at p b) r →
     row (hint_matrix Simple p a) r ≡ row (hint_matrix Simple p b) r
 same_hint_row p a b r below e =
     let d : List (List ℕ) → WordMatrix = digits_at p in

@@ -7,12 +7,12 @@ use Rattle.pir_schemes.specs.declared.plan.Plan.{Plan}
 use Rattle.pir_schemes.specs.Plans.{digits_at}
 
 -- row r of a matrix, with zeros up to the greater of two matrices' columns
-abbrev pub wide_row : WordMatrix → WordMatrix → WordMatrix → ℕ → List ℕ
-wide_row old new a r = row (widened a (max old.cols new.cols)) r
+abbrev pub padded_row : WordMatrix → WordMatrix → WordMatrix → ℕ → List ℕ
+padded_row old new a r = row (widened a (max old.cols new.cols)) r
 
 -- whether row r of two matrices differs: a column that one of them lacks counts as zeros there
 abbrev pub differs_at : WordMatrix → WordMatrix → ℕ → Bool
-differs_at old new r = not (pointwise nat_eq (wide_row old new old r) (wide_row old new new r))
+differs_at old new r = not (pointwise nat_eq (padded_row old new old r) (padded_row old new new r))
 
 -- the rows in which two matrices differ, ascending
 unfoldable pub changed_rows : WordMatrix → WordMatrix → List ℕ

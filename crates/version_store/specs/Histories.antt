@@ -93,20 +93,20 @@ abbrev pub without_draft : StoreState → StoreState
 without_draft s = record s { draft = s.edition.records; marked = false }
 
 -- an accepted edit of a record, an accepted append, or a publication
-pub data Change : Type 0 where
-  Edited : ℕ → List ℕ → Change
-  Appended : List ℕ → Change
-  Published : Change
+pub data StoreChange : Type 0 where
+  Edited : ℕ → List ℕ → StoreChange
+  Appended : List ℕ → StoreChange
+  Published : StoreChange
 
 -- the history after changes
-abbrev pub history_after : List Change → History → History
+abbrev pub history_after : List StoreChange → History → History
 history_after [] h = h
 history_after (Edited i bytes ∷ more) h = history_after more (after_edit i bytes h)
 history_after (Appended bytes ∷ more) h = history_after more (after_append bytes h)
 history_after (Published ∷ more) h = history_after more (published h)
 
 -- what is kept after changes
-abbrev pub held_after : List Change → StoreState → StoreState
+abbrev pub held_after : List StoreChange → StoreState → StoreState
 held_after [] s = s
 held_after (Edited i bytes ∷ more) s = held_after more (held_edited i bytes s)
 held_after (Appended bytes ∷ more) s = held_after more (held_appended bytes s)

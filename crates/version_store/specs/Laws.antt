@@ -14,11 +14,11 @@ use Rattle.snapshot_file.specs.Migrations.{IsPlainForm, in_slots, AreInSlots}
 use Rattle.snapshot_file.specs.Widenings.{IsOrdinaryForm, in_wide}
 use Rattle.snapshot_file.specs.Snapshots.{shape_of}
 use Rattle.version_store.specs.Openings.{IsSound, plan_held}
-use Rattle.version_store.specs.Histories.{AreGrowing, StoreState, History, StandsFor, Change, changes_since, history_after, held_after, records_of, delta_rows}
+use Rattle.version_store.specs.Histories.{AreGrowing, StoreState, History, StandsFor, StoreChange, changes_since, history_after, held_after, records_of, delta_rows}
 
 -- after any accepted edits, appends and publications a store represents its history after them
 abbrev pub EachRunStands : Type 0
-EachRunStands = (changes : List Change) (s : StoreState) (h : History) → StandsFor s h → StandsFor (held_after changes s) (history_after changes h)
+EachRunStands = (changes : List StoreChange) (s : StoreState) (h : History) → StandsFor s h → StandsFor (held_after changes s) (history_after changes h)
 
 -- a row that is not among those since a version is the same in that version's SimplePIR hint and in
 -- the current one, both made from scratch
@@ -30,8 +30,8 @@ UnchangedRowsStay = (p : Plan) (h : History) (since : ℕ) (rows : List ℕ) (re
 
 -- what differs between a version and the current one moves that version's SimplePIR hint to the
 -- current one, both made from scratch
-abbrev pub ChangesMoveTheHint : Type 0
-ChangesMoveTheHint = (p : Plan) (h : History) (since most : ℕ) (entries : List ℕ) (records : List (List ℕ))
+abbrev pub ChangesSinceMoveTheHint : Type 0
+ChangesSinceMoveTheHint = (p : Plan) (h : History) (since most : ℕ) (entries : List ℕ) (records : List (List ℕ))
     → IsPlan p (length h.current) → AreGrowing h.current h.past → All (IsRecordOf p) h.current → All (IsRecordOf p) records
     → changes_since p h since most ≡ Some entries → records_of h since ≡ Some records
     → let l = shape_at p (length h.current) in

@@ -10,12 +10,12 @@ use Rattle.pir_schemes.specs.declared.scheme.Scheme.TheVariants as scheme
 use Rattle.pir_schemes.specs.Plans.{digits_at, second_public}
 use Rattle.pir_schemes.specs.Retrievals.{server_hint, query_count, answer_words}
 use Rattle.version_store.specs.Editions.{Records, version_shape}
-use Rattle.version_store.specs.declared.preparing.Making.{Making}
-use Rattle.version_store.specs.declared.preparing.Making.TheVariants.{Simple, Double}
+use Rattle.version_store.specs.declared.preparing.AnswerMaking.{AnswerMaking}
+use Rattle.version_store.specs.declared.preparing.AnswerMaking.TheVariants.{Simple, Double}
 use Rattle.version_store.specs.declared.preparing.Preparation.{Preparation}
 
 -- What is made of the answer to a query on a version is right, and whole if it is said to be.
-abbrev pub IsMakingFor : Records → List ℕ → Making → Type 0
+abbrev pub IsMakingFor : Records → List ℕ → AnswerMaking → Type 0
 IsMakingFor e query (Simple made out) =
     (length query ≡ query_count scheme.Simple (version_shape e)) × (made ≤ digit_rows (version_shape e)) × (length out.items ≡ digit_rows (version_shape e))
     × HasFirst made (times_vector (digits_at e.plan e.records) query) out.items
@@ -26,17 +26,17 @@ IsMakingFor e query (Double whole steps) =
     × (whole ≡ true ↔ IsWholeAt (version_shape e) steps.stage)
 
 -- the scheme of an answer
-abbrev pub scheme_made : Making → Scheme
+abbrev pub scheme_made : AnswerMaking → Scheme
 scheme_made (Simple made out) = scheme.Simple
 scheme_made (Double whole steps) = scheme.Double
 
 -- All of an answer is there.
-abbrev pub IsAllMade : Making → Type 0
+abbrev pub IsAllMade : AnswerMaking → Type 0
 IsAllMade (Simple made out) = made ≡ length out.items
 IsAllMade (Double whole steps) = whole ≡ true
 
 -- how much of an answer on a version is there, as one number that each step makes greater
-abbrev pub amount_made : Records → Making → ℕ
+abbrev pub amount_made : Records → AnswerMaking → ℕ
 amount_made e (Simple made out) = made
 amount_made e (Double whole steps) = rows_made (version_shape e) (server_hint e.plan e.records).rows steps.stage
 

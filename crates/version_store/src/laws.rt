@@ -1,7 +1,8 @@
 //! Laws of versions, over the definitions alone. A caller that calls one of these functions has its
 //! law at hand in its proof; the call costs nothing.
 
-ghost use Rattle.version_store.specs.Laws.{ChangesMoveTheHint, EachRunStands, MigratedRecordsStay};
+ghost use Rattle.version_store.specs.Laws.{ChangesSinceMoveTheHint, EachRunStands};
+ghost use Rattle.version_store.specs.Laws.{MigratedRecordsStay};
 ghost use Rattle.version_store.specs.Laws.{UnchangedRowsStay, WidenedRecordsStay};
 
 /// A store that represents a history represents, after any accepted edits, appends and
@@ -19,7 +20,7 @@ pub fn unchanged_rows_stay()
 /// What a store returns of the changes since a version moves that version's SimplePIR hint to the
 /// current one.
 pub fn changes_move_the_hint()
-    ensures { ChangesMoveTheHint }
+    ensures { ChangesSinceMoveTheHint }
 {}
 
 /// A snapshot whose records were moved into slots opens a store with the same history.

@@ -23,7 +23,7 @@ use std::mem;
 
 /// What is made of an answer.
 #[derive(Drop)]
-pub(crate) enum Making {
+pub(crate) enum AnswerMaking {
     /// So many words of a SimplePIR answer.
     Simple(usize, Vec<u32>),
     /// A DoublePIR answer, and whether it is whole.
@@ -34,7 +34,7 @@ pub(crate) enum Making {
 #[derive(Drop)]
 pub(crate) struct Preparation {
     query: Vec<u32>,
-    making: Making,
+    making: AnswerMaking,
 }
 
 impl Preparation {
@@ -56,12 +56,12 @@ impl Preparation {
         match scheme {
             Scheme::Simple => {
                 let out = vec![in alloc; 0; layout.rows()]?;
-                let making = Making::Simple(0, out);
+                let making = AnswerMaking::Simple(0, out);
                 Ok(Preparation { query, making })
             }
             Scheme::Double => {
                 let steps = AnswerSteps::new(alloc, layout, dimension)?;
-                let making = Making::Double(false, steps);
+                let making = AnswerMaking::Double(false, steps);
                 Ok(Preparation { query, making })
             }
         }
@@ -87,15 +87,15 @@ impl Preparation {
     {
         let Preparation { query, making } = self;
         match making {
-            Making::Simple(made, mut out) => {
+            AnswerMaking::Simple(made, mut out) => {
                 let made = layer.put_answer_rows(kernel, &query, made, &mut out);
                 let whole = made == out.len();
-                let making = Making::Simple(made, out);
+                let making = AnswerMaking::Simple(made, out);
                 (Preparation { query, making }, whole)
             }
-            Making::Double(_, mut steps) => {
+            AnswerMaking::Double(_, mut steps) => {
                 let whole = steps.step(kernel, layer.digits(), server, a2, &query);
-                let making = Making::Double(whole, steps);
+                let making = AnswerMaking::Double(whole, steps);
                 (Preparation { query, making }, whole)
             }
         }
@@ -130,18 +130,18 @@ impl Preparation {
     {
         let Preparation { query, making } = self;
         match (scheme, making) {
-            (Scheme::Simple, Making::Simple(made, out)) => {
+            (Scheme::Simple, AnswerMaking::Simple(made, out)) => {
                 if made == out.len() {
                     return Ok(out);
                 }
-                let making = Making::Simple(made, out);
+                let making = AnswerMaking::Simple(made, out);
                 Err(Some(Preparation { query, making }))
             }
-            (Scheme::Double, Making::Double(whole, steps)) => {
+            (Scheme::Double, AnswerMaking::Double(whole, steps)) => {
                 if whole {
                     return Ok(steps.into_words());
                 }
-                let making = Making::Double(whole, steps);
+                let making = AnswerMaking::Double(whole, steps);
                 Err(Some(Preparation { query, making }))
             }
             (_, making) => Err(Some(Preparation { query, making })),
@@ -380,7 +380,7 @@ fn step_both<K: Kernel>(
         making: y_making,
     } = second;
     match (x_making, y_making) {
-        (Making::Simple(x_made, mut x_out), Making::Simple(y_made, mut y_out)) => {
+        (AnswerMaking::Simple(x_made, mut x_out), AnswerMaking::Simple(y_made, mut y_out)) => {
             if x_made == y_made {
                 let made = layer.put_two_answer_rows(
                     kernel, &x, &y, x_made, &mut x_out, &mut y_out,
@@ -388,21 +388,21 @@ fn step_both<K: Kernel>(
                 let whole = made == x_out.len();
                 let first = Preparation {
                     query: x,
-                    making: Making::Simple(made, x_out),
+                    making: AnswerMaking::Simple(made, x_out),
                 };
                 let second = Preparation {
                     query: y,
-                    making: Making::Simple(made, y_out),
+                    making: AnswerMaking::Simple(made, y_out),
                 };
                 return (first, second, whole);
             }
             let first = Preparation {
                 query: x,
-                making: Making::Simple(x_made, x_out),
+                making: AnswerMaking::Simple(x_made, x_out),
             };
             let second = Preparation {
                 query: y,
-                making: Making::Simple(y_made, y_out),
+                making: AnswerMaking::Simple(y_made, y_out),
             };
             step_each(first, second, kernel, layer, server, a2)
         }

@@ -22,7 +22,7 @@ use Rattle.std.proofs.alloc.Global.TheLaws as heap_laws
 use Rattle.std.specs.contracts.impls.GlobalAllocator.TheImpl.{ghosts}
 use Rattle.std_alloc.specs.Box.Ownership.{box_owns}
 use Rattle.vulandrai_c.proofs.Fields.{two_words, fields_apart, fields_joined}
-use Rattle.vulandrai_c.specs.ServerHandles.{owned_at}
+use Rattle.vulandrai_c.specs.ServerHandles.{server_owned_at}
 use Rattle.vulandrai_c.specs.Handles.{IsThere}
 use Rattle.foreign_sessions.specs.declared.server.ServerSession.{ServerSession}
 use Rattle.foreign_sessions.specs.contracts.server.ServerSession as session
@@ -52,7 +52,7 @@ module _ {M : Type 1} {𝓤 : Ura M} {𝓛 : Logic 𝓤} {K : Type 0} {Γ : List
   session_apart t d vs full k =
       let found = the_session d.session full in let x : ServerSession = found.0 in
       fsplit t $ fields_apart R Z LZ ghosts t d.at d.alloc vs (λ h words good. move t (1 ∷ []) $
-      rewrite t 0 (λ (c : Option ServerSession). ‵ (owned_at d.alloc d.at c)) found.1 refl $
+      rewrite t 0 (λ (c : Option ServerSession). ‵ (server_owned_at d.alloc d.at c)) found.1 refl $
       in_a_block t d.at (λ p. box_owns (ghosts.dealloc_token d.alloc) R p x) (fst∗ 𝓤 (never 𝓤) (sem 𝓛 (ghosts.dealloc_token d.alloc (bare (lone R.mir)) null_ptr))) (λ b o at.
       k b o h x found.1 at (words ∙ ap (λ (p : Ptr). two_words (ptr_val p) h ∷ []) at) good))
 

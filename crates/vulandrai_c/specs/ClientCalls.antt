@@ -12,7 +12,7 @@ use Rattle.foreign_sessions.specs.declared.client.ClientSession.{ClientSession}
 use Rattle.foreign_sessions.specs.declared.client.SessionFault.{SessionFault}
 use Rattle.foreign_sessions.specs.declared.client.FeedFault.{FeedFault}
 use Rattle.foreign_sessions.specs.declared.client.ResumeFault.{ResumeFault}
-use Rattle.foreign_sessions.specs.Clients.{Answers, Feeds, hint_file_of, event_record, record_of, rest}
+use Rattle.foreign_sessions.specs.Clients.{CallsClient, FeedsClientSession, hint_file_of, event_record, record_given, later_events}
 use Rattle.foreign_sessions.specs.Clients as session
 use Rattle.vulandrai_c.specs.ClientCodes.{session_code, feed_code, resume_code}
 use Rattle.vulandrai_c.specs.declared.reported.ReportedEvent.{ReportedEvent}
@@ -25,21 +25,21 @@ IsFresh wide (Some s) seed number = (s.core ≡ record { state = fresh_in (clien
 
 -- what opening did: there is a fresh client; or the number is too large (33), or memory is refused
 -- (5), and the handle is as before
-abbrev pub Opens : Bool → Option ClientSession → List ℕ → ℕ → Option ClientSession → ℕ → Type 0
-Opens wide old seed number new code =
+abbrev pub OpensClientWithCode : Bool → Option ClientSession → List ℕ → ℕ → Option ClientSession → ℕ → Type 0
+OpensClientWithCode wide old seed number new code =
     ((code ≡ 0) × IsFresh wide new seed number) ⊎ ((code ≡ 33) × (2 ^ 62 < number) × (new ≡ old)) ⊎ ((code ≡ 5) × (new ≡ old))
 
 -- what a call of the client did, and the code of its answer
-pub record Calls (old : ClientSession) (want : ClientCall) (new : ClientSession) (code : ℕ) : Type 0 where
+pub record CallsClientWithCode (old : ClientSession) (want : ClientCall) (new : ClientSession) (code : ℕ) : Type 0 where
   pub answer : Result (Unit {0}) SessionFault
   pub code_is : code ≡ session_code answer
-  pub did : Answers old want answer new
+  pub did : CallsClient old want answer new
 
 -- what a piece of the server's stream did, and the code of its answer
-pub record TakesPiece (old : ClientSession) (bytes : List ℕ) (new : ClientSession) (code : ℕ) : Type 0 where
+pub record FeedsClientWithCode (old : ClientSession) (bytes : List ℕ) (new : ClientSession) (code : ℕ) : Type 0 where
   pub answer : Result (Unit {0}) FeedFault
   pub code_is : code ≡ feed_code answer
-  pub did : Feeds old bytes answer new
+  pub did : FeedsClientSession old bytes answer new
 
 -- the bytes that wait to be sent, none if there is no client
 abbrev pub waiting_of : Option ClientSession → List ℕ
@@ -57,9 +57,9 @@ TakesWaiting old new before after code =
 -- of bytes (35), and nothing changed
 abbrev pub TakesEvent : ClientSession → ClientSession → List ℕ → List ℕ → ℕ → Type 0
 TakesEvent old new before after code =
-    ((code ≡ 0) × (after ≡ record_of old.events.items) × (new.events.items ≡ rest old.events.items) × (new.core ≡ old.core)
+    ((code ≡ 0) × (after ≡ record_given old.events.items) × (new.events.items ≡ later_events old.events.items) × (new.core ≡ old.core)
     × (new.waiting ≡ old.waiting))
-    ⊎ ((code ≡ 35) × (length before ≢ length (record_of old.events.items)) × (after ≡ before) × (new ≡ old))
+    ⊎ ((code ≡ 35) × (length before ≢ length (record_given old.events.items)) × (after ≡ before) × (new ≡ old))
 
 -- the file of the hint that a client holds, none if there is no client
 abbrev pub hint_file_in : Option ClientSession → List ℕ
@@ -73,9 +73,9 @@ CopiesHint s before after code =
     ((code ≡ 0) × (after ≡ hint_file_of s.core.state)) ⊎ ((code ≡ 5) × (after ≡ before))
     ⊎ ((code ≡ 35) × (length before ≢ length (hint_file_of s.core.state)) × (after ≡ before))
 
--- what a call for the bytes that say which store the server's is did: the server let no client in
--- yet (1), or there is room for another number of bytes than 41 (35), and nothing was written; or
--- they were written
+-- what a call for the bytes that say which store the server's is did: the server has not let
+-- this client in yet (1), or there is room for another number of bytes than 41 (35), and nothing was
+-- written; or they were written
 abbrev pub CopiesPlan : Option ServerInfo → List ℕ → List ℕ → ℕ → Type 0
 CopiesPlan None before after code = (code ≡ 1) × (after ≡ before)
 CopiesPlan (Some known) before after code =
@@ -83,7 +83,7 @@ CopiesPlan (Some known) before after code =
     ⊎ ((code ≡ 35) × (length before ≢ 41) × (after ≡ before))
 
 -- what the bytes of a hint's file did, and the code of the answer
-pub record Resumes (old : ClientSession) (bytes : List ℕ) (new : ClientSession) (code : ℕ) : Type 0 where
+pub record ResumesWithCode (old : ClientSession) (bytes : List ℕ) (new : ClientSession) (code : ℕ) : Type 0 where
   pub answer : Result Bool ResumeFault
   pub code_is : code ≡ resume_code answer
   pub did : session.Resumes old bytes answer new
@@ -121,7 +121,7 @@ event_version (event.Done v) = v
 event_version (event.Refused c) = 0
 
 -- an event as C reads it
-pub record IsReported (e : Event) (out : ReportedEvent) : Type 0 where
+pub record IsEventInC (e : Event) (out : ReportedEvent) : Type 0 where
   pub kind : out.kind ≡ event_kind e
   pub detail : out.detail ≡ event_detail e
   pub index : out.index ≡ event_index e
@@ -130,9 +130,9 @@ pub record IsReported (e : Event) (out : ReportedEvent) : Type 0 where
   pub record_len : out.record_len ≡ length (event_record e)
 
 -- the first of these events as C reads it, with all fields 0 if there is none
-abbrev pub Reports : List Event → ReportedEvent → Type 0
-Reports [] out = out ≡ record { kind = 0; detail = 0; index = 0; reserved = 0; version = 0; record_len = 0 }
-Reports (e ∷ es) out = IsReported e out
+abbrev pub IsFirstEventInC : List Event → ReportedEvent → Type 0
+IsFirstEventInC [] out = out ≡ record { kind = 0; detail = 0; index = 0; reserved = 0; version = 0; record_len = 0 }
+IsFirstEventInC (e ∷ es) out = IsEventInC e out
 
 -- what the server reported of its store as C reads it, all 0 before it let the client in
 abbrev pub reported_server : Option ServerInfo → ReportedServer

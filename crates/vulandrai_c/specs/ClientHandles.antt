@@ -9,6 +9,6 @@ use Rattle.foreign_sessions.specs.declared.client.ClientSession.{ClientSession}
 use Rattle.foreign_sessions.specs.contracts.client.ClientSession.{the_row}
 
 -- what a place owns with an allocator: the box of a client, if there is one
-abbrev pub owned_at : Global → Ptr → Option ClientSession → Fml
-owned_at a p None = ftrue
-owned_at a p (Some s) = box_owns (ghosts.dealloc_token a) the_row p s
+abbrev pub client_owned_at : Global → Ptr → Option ClientSession → Fml
+client_owned_at a p None = ftrue
+client_owned_at a p (Some s) = box_owns (ghosts.dealloc_token a) the_row p s

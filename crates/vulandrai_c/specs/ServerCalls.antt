@@ -16,7 +16,7 @@ use Rattle.vulandrai_c.specs.ServerCodes.{snapshot_code, opening_code, piece_cod
 -- the server of a snapshot file
 abbrev pub IsServerOf : List ℕ → Option ServerSession → Type 0
 IsServerOf bytes None = ⊥
-IsServerOf bytes (Some s) = session.Opens bytes s
+IsServerOf bytes (Some s) = session.OpensServer bytes s
 
 -- bytes that are no snapshot file, or for which memory is refused, with their code
 pub record IsRefused (bytes : List ℕ) (code : ℕ) : Type 0 where
@@ -26,11 +26,11 @@ pub record IsRefused (bytes : List ℕ) (code : ℕ) : Type 0 where
 
 -- what opening did: there is a server of these bytes; or they are refused, or memory for the server
 -- is refused (5), and the handle is as before
-abbrev pub Opens : Option ServerSession → List ℕ → Option ServerSession → ℕ → Type 0
-Opens old bytes new code = ((code ≡ 0) × IsServerOf bytes new) ⊎ (IsRefused bytes code × (new ≡ old)) ⊎ ((code ≡ 5) × (new ≡ old))
+abbrev pub OpensServerWithCode : Option ServerSession → List ℕ → Option ServerSession → ℕ → Type 0
+OpensServerWithCode old bytes new code = ((code ≡ 0) × IsServerOf bytes new) ⊎ (IsRefused bytes code × (new ≡ old)) ⊎ ((code ≡ 5) × (new ≡ old))
 
 -- what opening a session did, and the code of the answer
-pub record OpensSession (old : ServerSession) (id : ℕ) (new : ServerSession) (code : ℕ) : Type 0 where
+pub record OpensSessionWithCode (old : ServerSession) (id : ℕ) (new : ServerSession) (code : ℕ) : Type 0 where
   pub answer : Result (Unit {0}) SessionError
   pub code_is : code ≡ opening_code answer
   pub did : session.OpensSession old id answer new
@@ -45,10 +45,10 @@ pub record ClosesSession (old : ServerSession) (id : ℕ) (new : ServerSession) 
   pub replies : new.replies ≡ old.replies
 
 -- what a piece of a session's stream did, and the code of the answer
-pub record TakesPiece (old : ServerSession) (id : ℕ) (bytes : List ℕ) (new : ServerSession) (code : ℕ) : Type 0 where
+pub record TakesPieceWithCode (old : ServerSession) (id : ℕ) (bytes : List ℕ) (new : ServerSession) (code : ℕ) : Type 0 where
   pub answer : Result (Unit {0}) PieceFault
   pub code_is : code ≡ piece_code answer
-  pub did : session.Feeds old id bytes answer new
+  pub did : session.FeedsServerSession old id bytes answer new
 
 -- how many bytes of a piece were taken by an answer, 0 if the piece was refused
 abbrev pub bytes_taken : Result ℕ PieceFault → ℕ
@@ -57,11 +57,11 @@ bytes_taken (Err fault) = 0
 
 -- what the first frame of a piece of a session's stream did, how many bytes of the piece were
 -- taken, and the code of the answer
-pub record TakesFrame (old : ServerSession) (id : ℕ) (bytes : List ℕ) (taken : ℕ) (new : ServerSession) (code : ℕ) : Type 0 where
+pub record TakesFrameWithCode (old : ServerSession) (id : ℕ) (bytes : List ℕ) (taken : ℕ) (new : ServerSession) (code : ℕ) : Type 0 where
   pub answer : Result ℕ PieceFault
   pub code_is : code ≡ frame_code answer
   pub taken_is : taken ≡ bytes_taken answer
-  pub did : session.FeedsFirst old id bytes answer new
+  pub did : session.FeedsServerFirst old id bytes answer new
 
 -- the replies that wait to be sent, none if there is no server
 abbrev pub replies_of : Option ServerSession → List ℕ
@@ -76,22 +76,22 @@ TakesReplies old new before after code =
     ⊎ ((code ≡ 35) × (length before ≢ length old.replies.items) × (after ≡ before) × (new ≡ old))
 
 -- what an edit did, and the code of the answer
-pub record Edits (old : ServerSession) (i : ℕ) (bytes : List ℕ) (new : ServerSession) (code : ℕ) : Type 0 where
+pub record EditsWithCode (old : ServerSession) (i : ℕ) (bytes : List ℕ) (new : ServerSession) (code : ℕ) : Type 0 where
   pub answer : Result (Unit {0}) EditError
   pub code_is : code ≡ edit_code answer
-  pub did : session.Edits old i bytes answer new
+  pub did : session.EditsDraft old i bytes answer new
 
 -- what an append did, and the code of the answer
-pub record Appends (old : ServerSession) (bytes : List ℕ) (new : ServerSession) (code : ℕ) : Type 0 where
+pub record AppendsWithCode (old : ServerSession) (bytes : List ℕ) (new : ServerSession) (code : ℕ) : Type 0 where
   pub answer : Result (Unit {0}) AppendError
   pub code_is : code ≡ append_code answer
-  pub did : session.Appends old bytes answer new
+  pub did : session.AppendsToDraft old bytes answer new
 
 -- what a publication did, and the code of the answer
-pub record Publishes (old : ServerSession) (new : ServerSession) (code : ℕ) : Type 0 where
+pub record PublishesWithCode (old : ServerSession) (new : ServerSession) (code : ℕ) : Type 0 where
   pub answer : Result ℕ PublishError
   pub code_is : code ≡ publication_code answer
-  pub did : session.Publishes old answer new
+  pub did : session.PublishesDraft old answer new
 
 -- the bytes of the snapshot file of a server's current version, none if there is no server
 abbrev pub snapshot_bytes_of : Option ServerSession → List ℕ

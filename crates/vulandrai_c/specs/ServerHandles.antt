@@ -9,6 +9,6 @@ use Rattle.foreign_sessions.specs.declared.server.ServerSession.{ServerSession}
 use Rattle.foreign_sessions.specs.contracts.server.ServerSession.{the_row}
 
 -- what a place owns with an allocator: the box of a server, if there is one
-abbrev pub owned_at : Global → Ptr → Option ServerSession → Fml
-owned_at a p None = ftrue
-owned_at a p (Some s) = box_owns (ghosts.dealloc_token a) the_row p s
+abbrev pub server_owned_at : Global → Ptr → Option ServerSession → Fml
+server_owned_at a p None = ftrue
+server_owned_at a p (Some s) = box_owns (ghosts.dealloc_token a) the_row p s

@@ -4,8 +4,11 @@ ghost use Rattle.std.specs.Prelude.{◌≡◌, false, true, ◌≤◌, ◌<◌, 
 ghost use Rattle.client_core.specs.Calls.{ClientCall};
 ghost use Rattle.pir_schemes.specs.declared.scheme.Scheme.TheVariants.{Simple, Double};
 ghost use Rattle.vulandrai_c.specs.Handles.{CallsOn};
-ghost use Rattle.vulandrai_c.specs.ClientCalls.{Opens, Calls, CopiesHint, CopiesPlan, Resumes};
-ghost use Rattle.vulandrai_c.specs.ClientCalls.{TakesPiece, TakesWaiting, TakesEvent, Reports};
+ghost use Rattle.vulandrai_c.specs.ClientCalls.{OpensClientWithCode, CallsClientWithCode};
+ghost use Rattle.vulandrai_c.specs.ClientCalls.{CopiesHint, CopiesPlan};
+ghost use Rattle.vulandrai_c.specs.ClientCalls.{ResumesWithCode};
+ghost use Rattle.vulandrai_c.specs.ClientCalls.{FeedsClientWithCode, TakesWaiting, TakesEvent};
+ghost use Rattle.vulandrai_c.specs.ClientCalls.{IsFirstEventInC};
 ghost use Rattle.vulandrai_c.specs.ClientCalls.{hint_file_in, waiting_of, reported_server};
 
 use crate::client_answers::{
@@ -31,7 +34,7 @@ pub extern "C" fn vul_client_open(
     seed: &[u8; 32],
     first_number: u64,
 ) -> u32
-    ensures { Opens false client.old.held.session seed.now first_number
+    ensures { OpensClientWithCode false client.old.held.session seed.now first_number
         client.new.held.session result }
 {
     if first_number > NUMBER_LIMIT {
@@ -53,7 +56,7 @@ pub extern "C" fn vul_client_open_wide(
     seed: &[u8; 32],
     first_number: u64,
 ) -> u32
-    ensures { Opens true client.old.held.session seed.now first_number
+    ensures { OpensClientWithCode true client.old.held.session seed.now first_number
         client.new.held.session result }
 {
     if first_number > NUMBER_LIMIT {
@@ -79,7 +82,7 @@ pub extern "C" fn vul_client_close(client: &mut ClientHandle, alloc: Global)
 #[unsafe(no_mangle)]
 pub extern "C" fn vul_client_hello(client: &mut ClientHandle, alloc: Global, key: &[u8; 32]) -> u32
     ensures { CallsOn client.old.held.session client.new.held.session result
-        (λ old new. Calls old (ClientCall.Hello key.now) new result) }
+        (λ old new. CallsClientWithCode old (ClientCall.Hello key.now) new result) }
 {
     let Some(mut session) = replace(client, ClientHandle::closed(alloc)).into_box() else {
         return CLOSED;
@@ -94,9 +97,9 @@ pub extern "C" fn vul_client_hello(client: &mut ClientHandle, alloc: Global, key
 #[unsafe(no_mangle)]
 pub extern "C" fn vul_client_sync(client: &mut ClientHandle, alloc: Global, scheme: u32) -> u32
     ensures simple { (scheme ≡ 0) → CallsOn client.old.held.session client.new.held.session result
-        (λ old new. Calls old (ClientCall.Sync Simple) new result) }
+        (λ old new. CallsClientWithCode old (ClientCall.Sync Simple) new result) }
     ensures double { (scheme ≡ 1) → CallsOn client.old.held.session client.new.held.session result
-        (λ old new. Calls old (ClientCall.Sync Double) new result) }
+        (λ old new. CallsClientWithCode old (ClientCall.Sync Double) new result) }
     ensures other { (1 < scheme) →
         (result ≡ 34) × (client.new.held.session ≡ client.old.held.session) }
 {
@@ -117,7 +120,7 @@ pub extern "C" fn vul_client_sync(client: &mut ClientHandle, alloc: Global, sche
 #[unsafe(no_mangle)]
 pub extern "C" fn vul_client_ask(client: &mut ClientHandle, alloc: Global, index: u32) -> u32
     ensures { CallsOn client.old.held.session client.new.held.session result
-        (λ old new. Calls old (ClientCall.Ask index) new result) }
+        (λ old new. CallsClientWithCode old (ClientCall.Ask index) new result) }
 {
     let Some(mut session) = replace(client, ClientHandle::closed(alloc)).into_box() else {
         return CLOSED;
@@ -140,7 +143,7 @@ pub extern "C" fn vul_client_edit_bytes(
         (result ≡ 35) × (client.new.held.session ≡ client.old.held.session) }
     ensures short { (length record_bytes.now ≤ 65535) →
         CallsOn client.old.held.session client.new.held.session result
-        (λ old new. Calls old (ClientCall.Edit index record_bytes.now) new result) }
+        (λ old new. CallsClientWithCode old (ClientCall.Edit index record_bytes.now) new result) }
 {
     if record_bytes.len() > RECORD_LIMIT {
         return BAD_LENGTH;
@@ -165,7 +168,7 @@ pub extern "C" fn vul_client_append_bytes(
         (result ≡ 35) × (client.new.held.session ≡ client.old.held.session) }
     ensures short { (length record_bytes.now ≤ 65535) →
         CallsOn client.old.held.session client.new.held.session result
-        (λ old new. Calls old (ClientCall.Append record_bytes.now) new result) }
+        (λ old new. CallsClientWithCode old (ClientCall.Append record_bytes.now) new result) }
 {
     if record_bytes.len() > RECORD_LIMIT {
         return BAD_LENGTH;
@@ -182,7 +185,7 @@ pub extern "C" fn vul_client_append_bytes(
 #[unsafe(no_mangle)]
 pub extern "C" fn vul_client_publish(client: &mut ClientHandle, alloc: Global) -> u32
     ensures { CallsOn client.old.held.session client.new.held.session result
-        (λ old new. Calls old ClientCall.Publish new result) }
+        (λ old new. CallsClientWithCode old ClientCall.Publish new result) }
 {
     let Some(mut session) = replace(client, ClientHandle::closed(alloc)).into_box() else {
         return CLOSED;
@@ -200,7 +203,7 @@ pub extern "C" fn vul_client_feed_bytes(
     piece: &[u8],
 ) -> u32
     ensures { CallsOn client.old.held.session client.new.held.session result
-        (λ old new. TakesPiece old piece.now new result) }
+        (λ old new. FeedsClientWithCode old piece.now new result) }
 {
     let Some(mut session) = replace(client, ClientHandle::closed(alloc)).into_box() else {
         return CLOSED;
@@ -251,7 +254,7 @@ pub extern "C" fn vul_client_event(
     out: &mut ReportedEvent,
 ) -> u32
     ensures { CallsOn client.old.held.session client.new.held.session result
-        (λ old new. (result ≡ 0) × (new ≡ old) × Reports old.events.items out.new) }
+        (λ old new. (result ≡ 0) × (new ≡ old) × IsFirstEventInC old.events.items out.new) }
 {
     let Some(session) = replace(client, ClientHandle::closed(alloc)).into_box() else {
         return CLOSED;
@@ -374,7 +377,7 @@ pub extern "C" fn vul_client_resume_bytes(
     bytes: &[u8],
 ) -> u32
     ensures { CallsOn client.old.held.session client.new.held.session result
-        (λ old new. Resumes old bytes.now new result) }
+        (λ old new. ResumesWithCode old bytes.now new result) }
 {
     let Some(mut session) = replace(client, ClientHandle::closed(alloc)).into_box() else {
         return CLOSED;

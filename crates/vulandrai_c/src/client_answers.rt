@@ -2,7 +2,9 @@
 
 ghost use Rattle.std.specs.Prelude.{◌≤◌, length};
 ghost use Rattle.client_core.specs.Calls.{ClientCall};
-ghost use Rattle.vulandrai_c.specs.ClientCalls.{Calls, CopiesHint, CopiesPlan, Resumes, TakesPiece};
+ghost use Rattle.vulandrai_c.specs.ClientCalls.{CallsClientWithCode, CopiesHint, CopiesPlan};
+ghost use Rattle.vulandrai_c.specs.ClientCalls.{ResumesWithCode};
+ghost use Rattle.vulandrai_c.specs.ClientCalls.{FeedsClientWithCode};
 ghost use Rattle.vulandrai_c.specs.ClientCalls.{TakesWaiting, TakesEvent};
 
 use crate::client_codes::{feed_code, resume_code, session_code};
@@ -12,7 +14,7 @@ use std::alloc::Global;
 
 /// A greeting.
 pub fn hello(client: &mut ClientSession, key: [u8; 32]) -> u32
-    ensures { Calls client.old (ClientCall.Hello key) client.new result }
+    ensures { CallsClientWithCode client.old (ClientCall.Hello key) client.new result }
 {
     let answer = client.hello(key);
     session_code(answer)
@@ -20,7 +22,7 @@ pub fn hello(client: &mut ClientSession, key: [u8; 32]) -> u32
 
 /// A sync.
 pub fn sync(client: &mut ClientSession, scheme: Scheme) -> u32
-    ensures { Calls client.old (ClientCall.Sync scheme) client.new result }
+    ensures { CallsClientWithCode client.old (ClientCall.Sync scheme) client.new result }
 {
     let answer = client.sync(scheme);
     session_code(answer)
@@ -28,7 +30,7 @@ pub fn sync(client: &mut ClientSession, scheme: Scheme) -> u32
 
 /// A query.
 pub fn ask(client: &mut ClientSession, index: u32) -> u32
-    ensures { Calls client.old (ClientCall.Ask index) client.new result }
+    ensures { CallsClientWithCode client.old (ClientCall.Ask index) client.new result }
 {
     let answer = client.ask(index);
     session_code(answer)
@@ -37,7 +39,7 @@ pub fn ask(client: &mut ClientSession, index: u32) -> u32
 /// An edit.
 pub fn edit(client: &mut ClientSession, index: u32, bytes: &[u8]) -> u32
     requires { length bytes.now ≤ 65535 }
-    ensures { Calls client.old (ClientCall.Edit index bytes.now) client.new result }
+    ensures { CallsClientWithCode client.old (ClientCall.Edit index bytes.now) client.new result }
 {
     let answer = client.edit(index, bytes);
     session_code(answer)
@@ -46,7 +48,7 @@ pub fn edit(client: &mut ClientSession, index: u32, bytes: &[u8]) -> u32
 /// An append.
 pub fn append(client: &mut ClientSession, bytes: &[u8]) -> u32
     requires { length bytes.now ≤ 65535 }
-    ensures { Calls client.old (ClientCall.Append bytes.now) client.new result }
+    ensures { CallsClientWithCode client.old (ClientCall.Append bytes.now) client.new result }
 {
     let answer = client.append(bytes);
     session_code(answer)
@@ -54,7 +56,7 @@ pub fn append(client: &mut ClientSession, bytes: &[u8]) -> u32
 
 /// A publication.
 pub fn publish(client: &mut ClientSession) -> u32
-    ensures { Calls client.old ClientCall.Publish client.new result }
+    ensures { CallsClientWithCode client.old ClientCall.Publish client.new result }
 {
     let answer = client.publish();
     session_code(answer)
@@ -62,7 +64,7 @@ pub fn publish(client: &mut ClientSession) -> u32
 
 /// A piece of the server's stream.
 pub fn feed(client: &mut ClientSession, piece: &[u8]) -> u32
-    ensures { TakesPiece client.old piece.now client.new result }
+    ensures { FeedsClientWithCode client.old piece.now client.new result }
 {
     let answer = client.feed(piece);
     feed_code(answer)
@@ -120,7 +122,7 @@ pub fn plan(client: &ClientSession, out: &mut [u8]) -> u32
 
 /// A resumption.
 pub fn resume(client: &mut ClientSession, alloc: Global, bytes: &[u8]) -> u32
-    ensures { Resumes client.old bytes.now client.new result }
+    ensures { ResumesWithCode client.old bytes.now client.new result }
 {
     let answer = client.resume(alloc, bytes);
     resume_code(answer)

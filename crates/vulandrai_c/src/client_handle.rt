@@ -2,7 +2,7 @@
 
 ghost use Rattle.std.specs.Prelude.{◌≡◌, Option, None, Some};
 ghost use Rattle.foreign_sessions.specs.declared.client.ClientSession.{ClientSession as Session};
-ghost use Rattle.vulandrai_c.specs.ClientHandles.{owned_at};
+ghost use Rattle.vulandrai_c.specs.ClientHandles.{client_owned_at};
 ghost use Rattle.vulandrai_c.specs.Handles.{IsThere, mark, inside};
 
 use crate::box_pointer::BoxPointer;
@@ -20,7 +20,7 @@ pub struct ClientPointer {
 }
 
 impl Model for ClientPointer {
-    ghost also_owns = { λ p. owned_at p.alloc p.at p.session };
+    ghost also_owns = { λ p. client_owned_at p.alloc p.at p.session };
 }
 
 impl ClientPointer {

@@ -1,7 +1,7 @@
 //! Events and reports as C reads them.
 
 ghost use Rattle.std.specs.Prelude.{◌≡◌};
-ghost use Rattle.vulandrai_c.specs.ClientCalls.{IsReported, Reports, reported_server};
+ghost use Rattle.vulandrai_c.specs.ClientCalls.{IsEventInC, IsFirstEventInC, reported_server};
 
 use foreign_sessions::{ClientSession, Event, ServerInfo};
 
@@ -56,7 +56,7 @@ impl ReportedEvent {
 
 // An event as C reads it.
 fn event_reported(event: &Event) -> ReportedEvent
-    ensures { IsReported event.now result }
+    ensures { IsEventInC event.now result }
 {
     match event {
         Event::Welcomed(version) => ReportedEvent::of(1, *version),
@@ -88,7 +88,7 @@ fn event_reported(event: &Event) -> ReportedEvent
 
 /// The first event that waits as C reads it, with all fields 0 if none waits.
 pub fn first_reported(session: &ClientSession) -> ReportedEvent
-    ensures { Reports session.now.events.items result }
+    ensures { IsFirstEventInC session.now.events.items result }
 {
     match session.first_event() {
         None => ReportedEvent::of(0, 0),

@@ -3,9 +3,11 @@
 ghost use Rattle.std.specs.Prelude.{◌≡◌, ◌≢◌, ◌≤◌, None, length, if◌then◌else◌};
 ghost use Rattle.server_core.specs.Cores.{session_of, is_open};
 ghost use Rattle.vulandrai_c.specs.Handles.{CallsOn};
-ghost use Rattle.vulandrai_c.specs.ServerCalls.{Opens, OpensSession, ClosesSession, TakesPiece};
-ghost use Rattle.vulandrai_c.specs.ServerCalls.{TakesFrame, TakesReplies, Edits, Appends};
-ghost use Rattle.vulandrai_c.specs.ServerCalls.{Publishes, CopiesSnapshot, replies_of};
+ghost use Rattle.vulandrai_c.specs.ServerCalls.{OpensServerWithCode, OpensSessionWithCode};
+ghost use Rattle.vulandrai_c.specs.ServerCalls.{ClosesSession, TakesPieceWithCode};
+ghost use Rattle.vulandrai_c.specs.ServerCalls.{TakesFrameWithCode, TakesReplies, EditsWithCode};
+ghost use Rattle.vulandrai_c.specs.ServerCalls.{AppendsWithCode};
+ghost use Rattle.vulandrai_c.specs.ServerCalls.{PublishesWithCode, CopiesSnapshot, replies_of};
 ghost use Rattle.vulandrai_c.specs.ServerCalls.{snapshot_bytes_of};
 
 use crate::codes::{CLOSED, MEMORY, OK};
@@ -27,7 +29,8 @@ pub extern "C" fn vul_server_open_bytes(
     alloc: Global,
     snapshot: &[u8],
 ) -> u32
-    ensures { Opens server.old.held.session snapshot.now server.new.held.session result }
+    ensures { OpensServerWithCode server.old.held.session snapshot.now server.new.held.session
+        result }
 {
     match ServerSession::open(alloc, snapshot) {
         Err(fault) => snapshot_code(fault),
@@ -53,7 +56,7 @@ pub extern "C" fn vul_server_close(server: &mut ServerHandle, alloc: Global)
 #[unsafe(no_mangle)]
 pub extern "C" fn vul_server_session_open(server: &mut ServerHandle, alloc: Global, id: u64) -> u32
     ensures { CallsOn server.old.held.session server.new.held.session result
-        (λ old new. OpensSession old id new result) }
+        (λ old new. OpensSessionWithCode old id new result) }
 {
     let Some(mut session) = replace(server, ServerHandle::closed(alloc)).into_box() else {
         return CLOSED;
@@ -107,7 +110,7 @@ pub extern "C" fn vul_server_feed_bytes(
     piece: &[u8],
 ) -> u32
     ensures { CallsOn server.old.held.session server.new.held.session result
-        (λ old new. TakesPiece old id piece.now new result) }
+        (λ old new. TakesPieceWithCode old id piece.now new result) }
 {
     let Some(mut session) = replace(server, ServerHandle::closed(alloc)).into_box() else {
         return CLOSED;
@@ -129,7 +132,7 @@ pub extern "C" fn vul_server_feed_frame_bytes(
     taken: &mut usize,
 ) -> u32
     ensures served { CallsOn server.old.held.session server.new.held.session result
-        (λ old new. TakesFrame old id piece.now taken.new new result) }
+        (λ old new. TakesFrameWithCode old id piece.now taken.new new result) }
     ensures within { taken.new ≤ length piece.now }
     ensures refused { result ≢ 0 → taken.new ≡ 0 }
 {
@@ -185,7 +188,7 @@ pub extern "C" fn vul_server_edit_bytes(
     record_bytes: &[u8],
 ) -> u32
     ensures { CallsOn server.old.held.session server.new.held.session result
-        (λ old new. Edits old index record_bytes.now new result) }
+        (λ old new. EditsWithCode old index record_bytes.now new result) }
 {
     let Some(mut session) = replace(server, ServerHandle::closed(alloc)).into_box() else {
         return CLOSED;
@@ -204,7 +207,7 @@ pub extern "C" fn vul_server_append_bytes(
     record_bytes: &[u8],
 ) -> u32
     ensures { CallsOn server.old.held.session server.new.held.session result
-        (λ old new. Appends old record_bytes.now new result) }
+        (λ old new. AppendsWithCode old record_bytes.now new result) }
 {
     let Some(mut session) = replace(server, ServerHandle::closed(alloc)).into_box() else {
         return CLOSED;
@@ -220,7 +223,7 @@ pub extern "C" fn vul_server_append_bytes(
 #[unsafe(no_mangle)]
 pub extern "C" fn vul_server_publish(server: &mut ServerHandle, alloc: Global) -> u32
     ensures { CallsOn server.old.held.session server.new.held.session result
-        (λ old new. Publishes old new result) }
+        (λ old new. PublishesWithCode old new result) }
 {
     let Some(mut session) = replace(server, ServerHandle::closed(alloc)).into_box() else {
         return CLOSED;

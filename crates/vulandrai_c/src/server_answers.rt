@@ -9,7 +9,7 @@ use std::alloc::Global;
 
 /// The opening of a session.
 pub fn open_session(server: &mut ServerSession, id: u64) -> u32
-    ensures { calls.OpensSession server.old id server.new result }
+    ensures { calls.OpensSessionWithCode server.old id server.new result }
 {
     let answer = server.open_session(id);
     opening_code(answer)
@@ -28,7 +28,7 @@ pub fn close_session(server: &mut ServerSession, id: u64) -> u32
 
 /// A piece of a session's stream.
 pub fn serve(server: &mut ServerSession, id: u64, piece: &[u8]) -> u32
-    ensures { calls.TakesPiece server.old id piece.now server.new result }
+    ensures { calls.TakesPieceWithCode server.old id piece.now server.new result }
 {
     let answer = server.feed(id, piece);
     piece_code(answer)
@@ -36,7 +36,7 @@ pub fn serve(server: &mut ServerSession, id: u64, piece: &[u8]) -> u32
 
 /// The first frame of a piece of a session's stream, and how many bytes of the piece it took.
 pub fn serve_frame(server: &mut ServerSession, id: u64, piece: &[u8], taken: &mut usize) -> u32
-    ensures { calls.TakesFrame server.old id piece.now taken.new server.new result }
+    ensures { calls.TakesFrameWithCode server.old id piece.now taken.new server.new result }
 {
     match server.feed_frame(id, piece) {
         Ok(count) => {
@@ -63,7 +63,7 @@ pub fn take_replies(server: &mut ServerSession, out: &mut [u8]) -> u32
 
 /// A server's edit.
 pub fn edit_draft(server: &mut ServerSession, index: u32, bytes: &[u8]) -> u32
-    ensures { calls.Edits server.old index bytes.now server.new result }
+    ensures { calls.EditsWithCode server.old index bytes.now server.new result }
 {
     let answer = server.edit(index as usize, bytes);
     edit_code(answer)
@@ -71,7 +71,7 @@ pub fn edit_draft(server: &mut ServerSession, index: u32, bytes: &[u8]) -> u32
 
 /// A server's append.
 pub fn append_draft(server: &mut ServerSession, bytes: &[u8]) -> u32
-    ensures { calls.Appends server.old bytes.now server.new result }
+    ensures { calls.AppendsWithCode server.old bytes.now server.new result }
 {
     let answer = server.append(bytes);
     append_code(answer)
@@ -79,7 +79,7 @@ pub fn append_draft(server: &mut ServerSession, bytes: &[u8]) -> u32
 
 /// A server's publication.
 pub fn publish_draft(server: &mut ServerSession) -> u32
-    ensures { calls.Publishes server.old server.new result }
+    ensures { calls.PublishesWithCode server.old server.new result }
 {
     let answer = server.publish();
     publication_code(answer)

@@ -2,7 +2,7 @@
 
 ghost use Rattle.std.specs.Prelude.{◌≡◌, Option, None, Some};
 ghost use Rattle.foreign_sessions.specs.declared.server.ServerSession.{ServerSession as Session};
-ghost use Rattle.vulandrai_c.specs.ServerHandles.{owned_at};
+ghost use Rattle.vulandrai_c.specs.ServerHandles.{server_owned_at};
 ghost use Rattle.vulandrai_c.specs.Handles.{IsThere, mark, inside};
 
 use crate::box_pointer::BoxPointer;
@@ -20,7 +20,7 @@ pub struct ServerPointer {
 }
 
 impl Model for ServerPointer {
-    ghost also_owns = { λ p. owned_at p.alloc p.at p.session };
+    ghost also_owns = { λ p. server_owned_at p.alloc p.at p.session };
 }
 
 impl ServerPointer {

@@ -11,8 +11,8 @@ use Rattle.world_script.specs.declared.progress.Progress.{Progress}
 use Rattle.world_script.specs.declared.stop.Stop.{Stop}
 use Rattle.world_script.specs.declared.stop.Stop.TheVariants as stop
 use Rattle.world_script.specs.Texts.{outcome_text, bad_line_text, refused_world_text, memory_text}
-use Rattle.world_script.specs.Scripts.{Place, Move, Goes, Bad, Refused, FollowsMove, IsOutOfMemory, joined_texts}
-use Rattle.world_script.specs.Progress.{MovesQuietly, MovesTo, StopsAtMove, StopsScript, SaysAll, SaysText}
+use Rattle.world_script.specs.Scripts.{ScriptPlace, ScriptMove, Goes, Bad, Refused, FollowsMove, IsOutOfMemory, joined_texts}
+use Rattle.world_script.specs.Progress.{MovesQuietly, MakesMove, StopsAtMove, StopsScript, SaysAll, SaysText}
 
 -- the lines of outcomes are their texts, one after another
 pub joined-map : (outcomes : List Outcome) → joined_texts (map outcome_text outcomes) ≡ flat_map outcome_text outcomes
@@ -23,7 +23,7 @@ pub joined_one : (text : List ℕ) → joined_texts (text ∷ []) ≡ text
 joined_one text = append-nil text
 
 -- a move that prints nothing
-pub MovesTo-from_quiet : (L : Move → Type 0) (n : ℕ) (o : Option (List ℕ)) (r : Result Progress Stop) → MovesQuietly L n r → MovesTo L n o r o
+pub MovesTo-from_quiet : (L : ScriptMove → Type 0) (n : ℕ) (o : Option (List ℕ)) (r : Result Progress Stop) → MovesQuietly L n r → MakesMove L n o r o
 MovesTo-from_quiet L n o (Ok s) h = (h.0, [], h.1, h.2, Appends-nil o)
 MovesTo-from_quiet L n o (Err (stop.BadLine m)) h = (h.0, h.1, Appends-nil o)
 MovesTo-from_quiet L n o (Err stop.Memory) h = inl (Appends-nil o)
@@ -33,7 +33,7 @@ MovesTo-from_quiet L n o (Err stop.Write) h = absurd h
 MovesTo-from_quiet L n o (Err stop.TooLong) h = absurd h
 
 -- a move whose texts are those of outcomes ends as they were said
-pub StopsAt-from_all : (L : Move → Type 0) (n : ℕ) (next : Place) (outcomes : List Outcome) (o t : Option (List ℕ)) (e : Stop) →
+pub StopsAt-from_all : (L : ScriptMove → Type 0) (n : ℕ) (next : ScriptPlace) (outcomes : List Outcome) (o t : Option (List ℕ)) (e : Stop) →
     L (Goes next (map outcome_text outcomes)) → SaysAll outcomes o (Err e) t → StopsAtMove L n o e t
 StopsAt-from_all L n next outcomes o t stop.Memory l h =
     inr (
@@ -57,7 +57,7 @@ StopsAt-from_all L n next outcomes o t stop.Read l h = absurd h
 StopsAt-from_all L n next outcomes o t stop.TooLong l h = absurd h
 
 -- a move whose only text is cut off
-pub StopsAt-from_text : (L : Move → Type 0) (n : ℕ) (next : Place) (text : List ℕ) (o t : Option (List ℕ)) (e : Stop) →
+pub StopsAt-from_text : (L : ScriptMove → Type 0) (n : ℕ) (next : ScriptPlace) (text : List ℕ) (o t : Option (List ℕ)) (e : Stop) →
     L (Goes next (text ∷ [])) → SaysText text o (Err e) t → StopsAtMove L n o e t
 StopsAt-from_text L n next text o t stop.Memory l h = inl h
 StopsAt-from_text L n next text o t stop.Write l h = (
@@ -74,11 +74,11 @@ StopsAt-from_text L n next text o t stop.Read l h = absurd h
 StopsAt-from_text L n next text o t stop.TooLong l h = absurd h
 
 -- a script stops as its line does
-pub StopsScript-from : (L : Move → Type 0) (Prints : List ℕ → ℕ → Type 0) (n : ℕ) (then_ : Place → List ℕ → ℕ → Type 0)
+pub StopsScript-from : (L : ScriptMove → Type 0) (Prints : List ℕ → ℕ → Type 0) (n : ℕ) (then_ : ScriptPlace → List ℕ → ℕ → Type 0)
     (first mid last : Option (List ℕ)) (said : List ℕ) (e : Stop) →
     Appends first mid said →
     ((printed : List ℕ) (status : ℕ) → IsOutOfMemory printed status → Prints (said ++ printed) status) →
-    ((m : Move) (printed : List ℕ) (status : ℕ) → L m → FollowsMove n then_ m printed status → Prints (said ++ printed) status) →
+    ((m : ScriptMove) (printed : List ℕ) (status : ℕ) → L m → FollowsMove n then_ m printed status → Prints (said ++ printed) status) →
     StopsAtMove L n mid e last → StopsScript Prints first e last
 StopsScript-from L Prints n then_ first mid last said (stop.BadLine m) wrote forgets goes h = record {
   said = said;
@@ -129,7 +129,7 @@ StopsScript-from L Prints n then_ first mid last said stop.Read wrote forgets go
 StopsScript-from L Prints n then_ first mid last said stop.TooLong wrote forgets goes h = absurd h
 
 -- moves of one kind are moves of another
-pub StopsAt-map : (L M : Move → Type 0) (n : ℕ) (o t : Option (List ℕ)) (e : Stop) → ((m : Move) → L m → M m) → StopsAtMove L n o e t → StopsAtMove M n o e t
+pub StopsAt-map : (L M : ScriptMove → Type 0) (n : ℕ) (o t : Option (List ℕ)) (e : Stop) → ((m : ScriptMove) → L m → M m) → StopsAtMove L n o e t → StopsAtMove M n o e t
 StopsAt-map L M n o t (stop.BadLine m) f h = (h.0, f Bad h.1, h.2)
 StopsAt-map L M n o t (stop.World x) f h = (f (Refused x) h.0, h.1)
 StopsAt-map L M n o t stop.Memory f (inl h) = inl h
@@ -138,7 +138,7 @@ StopsAt-map L M n o t stop.Write f h = (h.0, h.1, h.2, f (Goes h.0 h.1) h.3, h.4
 StopsAt-map L M n o t stop.Read f h = absurd h
 StopsAt-map L M n o t stop.TooLong f h = absurd h
 
-pub MovesTo-map : (L M : Move → Type 0) (n : ℕ) (o t : Option (List ℕ)) (r : Result Progress Stop) → ((m : Move) → L m → M m) →
-    MovesTo L n o r t → MovesTo M n o r t
+pub MovesTo-map : (L M : ScriptMove → Type 0) (n : ℕ) (o t : Option (List ℕ)) (r : Result Progress Stop) → ((m : ScriptMove) → L m → M m) →
+    MakesMove L n o r t → MakesMove M n o r t
 MovesTo-map L M n o t (Ok s) f h = (h.0, h.1, h.2, f (Goes h.0 h.1) h.3, h.4)
 MovesTo-map L M n o t (Err e) f h = StopsAt-map L M n o t e f h

@@ -7,14 +7,14 @@ use Rattle.world_script.specs.declared.stop.Stop.{Stop}
 use Rattle.world_script.specs.declared.stop.Stop.TheVariants as stop
 use Rattle.world_script.specs.Texts.{bad_line_text, refused_world_text, memory_text}
 use Rattle.world_script.specs.Lines.{lines_of}
-use Rattle.world_script.specs.Scripts.{Place, Start, Move, Goes, Bad, Refused, FollowsMove, IsOutOfMemory, IsOver, LeadsText, LeadsAtEnd, Plays, joined_texts}
-use Rattle.world_script.specs.Progress.{IsAt, MovesTo, StopsAtMove, StopsScript, PlaysScript, EndsAs}
+use Rattle.world_script.specs.Scripts.{ScriptPlace, Start, ScriptMove, Goes, Bad, Refused, FollowsMove, IsOutOfMemory, IsPlayedOut, LeadsText, LeadsAtEnd, Plays, joined_texts}
+use Rattle.world_script.specs.Progress.{IsAt, MakesMove, StopsAtMove, StopsScript, PlaysScript, EndsAs}
 use Rattle.world_script.proofs.Moves.{StopsScript-from}
 
 -- some of a script's lines were played: what is still to come, after what was said, is what the
 -- script prints
 pub record IsPlayed (script rest : List ℕ) (progress : Progress) (number : ℕ) (old new : Option (List ℕ)) : Type 0 where
-  pub place : Place
+  pub place : ScriptPlace
   pub said : List ℕ
   pub at : IsAt progress place
   pub wrote : Appends old new said
@@ -25,15 +25,15 @@ pub IsPlayed-start : (script : List ℕ) (progress : Progress) (o : Option (List
 IsPlayed-start script progress o at = record { place = Start; said = []; at = at; wrote = Appends-nil o; plays = λ printed status h. h }
 
 -- what a line's move says of all that is to come
-pub line_goes : (rest text after : List ℕ) (place : Place) (number : ℕ) → lines_of rest ≡ text ∷ lines_of after →
-    (m : Move) (printed : List ℕ) (status : ℕ) → LeadsText place text m →
+pub line_goes : (rest text after : List ℕ) (place : ScriptPlace) (number : ℕ) → lines_of rest ≡ text ∷ lines_of after →
+    (m : ScriptMove) (printed : List ℕ) (status : ℕ) → LeadsText place text m →
     FollowsMove number (λ next r s. Plays (lines_of after) next (number + 1) r s) m printed status →
     Plays (lines_of rest) place number printed status
 line_goes rest text after place number e m printed status l f =
     subst (λ (ls : List (List ℕ)). Plays ls place number printed status) (sym e) (inr (m, l, f))
 
 -- memory may be refused at a line
-pub line_forgets : (rest text after : List ℕ) (place : Place) (number : ℕ) → lines_of rest ≡ text ∷ lines_of after →
+pub line_forgets : (rest text after : List ℕ) (place : ScriptPlace) (number : ℕ) → lines_of rest ≡ text ∷ lines_of after →
     (printed : List ℕ) (status : ℕ) → IsOutOfMemory printed status → Plays (lines_of rest) place number printed status
 line_forgets rest text after place number e printed status h =
     subst (λ (ls : List (List ℕ)). Plays ls place number printed status) (sym e) (inl h)
@@ -41,7 +41,7 @@ line_forgets rest text after place number e printed status h =
 -- one line more
 pub IsPlayed-more : (script rest text after : List ℕ) (progress next : Progress) (number : ℕ) (old mid new : Option (List ℕ)) →
     (p : IsPlayed script rest progress number old mid) → lines_of rest ≡ text ∷ lines_of after →
-    MovesTo (LeadsText p.place text) number mid (Ok next) new → IsPlayed script after next (number + 1) old new
+    MakesMove (LeadsText p.place text) number mid (Ok next) new → IsPlayed script after next (number + 1) old new
 IsPlayed-more script rest text after progress next number old mid new p e h = record {
   place = h.0;
   said = p.said ++ joined_texts h.1;
@@ -65,13 +65,13 @@ IsPlayed-stops script rest text after progress number old mid new e p is h =
     h
 
 -- what the end's move says of all that is to come
-pub end_goes : (rest : List ℕ) (place : Place) (number : ℕ) → lines_of rest ≡ [] → (m : Move) (printed : List ℕ) (status : ℕ) →
-    LeadsAtEnd place m → FollowsMove number IsOver m printed status → Plays (lines_of rest) place number printed status
+pub end_goes : (rest : List ℕ) (place : ScriptPlace) (number : ℕ) → lines_of rest ≡ [] → (m : ScriptMove) (printed : List ℕ) (status : ℕ) →
+    LeadsAtEnd place m → FollowsMove number IsPlayedOut m printed status → Plays (lines_of rest) place number printed status
 end_goes rest place number e m printed status l f =
     subst (λ (ls : List (List ℕ)). Plays ls place number printed status) (sym e) (inr (m, l, f))
 
 -- memory may be refused at the end
-pub end_forgets : (rest : List ℕ) (place : Place) (number : ℕ) → lines_of rest ≡ [] → (printed : List ℕ) (status : ℕ) →
+pub end_forgets : (rest : List ℕ) (place : ScriptPlace) (number : ℕ) → lines_of rest ≡ [] → (printed : List ℕ) (status : ℕ) →
     IsOutOfMemory printed status → Plays (lines_of rest) place number printed status
 end_forgets rest place number e printed status h =
     subst (λ (ls : List (List ℕ)). Plays ls place number printed status) (sym e) (inl h)

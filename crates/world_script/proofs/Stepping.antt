@@ -6,7 +6,7 @@ use Rattle.std.specs.List.{flat_map}
 use Rattle.snapshot_file.specs.declared.snapshot.Header.{Header}
 use Rattle.pir_world.specs.declared.steps.Step.{Step}
 use Rattle.pir_world.specs.declared.steps.Outcome.{Outcome}
-use Rattle.pir_world.specs.Runs.{State, Steps, setting_in, outcomes_of}
+use Rattle.pir_world.specs.Runs.{State, StepsTo, setting_in, outcomes_of}
 use Rattle.pir_world.specs.Worlds.{Kept, IsRunOf}
 use Rattle.pir_world.specs.Headlines.{IsOpening}
 use Rattle.pir_world.specs.Sides.{has_client}
@@ -16,8 +16,8 @@ use Rattle.world_script.specs.declared.progress.Progress.TheVariants as progress
 use Rattle.world_script.specs.declared.stop.Stop.{Stop}
 use Rattle.world_script.specs.declared.stop.Stop.TheVariants as stop
 use Rattle.world_script.specs.Texts.{outcome_text, no_client_text}
-use Rattle.world_script.specs.Scripts.{Filling, RunningWorld, Place, Running, Goes, Bad, MakesStep, LeadsFilled, LeadsRunning, named_client, added_outcomes, opened_world, header_of_filling}
-use Rattle.world_script.specs.Progress.{IsAt, IsOpened, MovesTo, StopsAtMove, SaysAll, SaysText, OpensWorld, running_world}
+use Rattle.world_script.specs.Scripts.{Filling, RunningWorld, ScriptPlace, Running, Goes, Bad, MakesStep, LeadsFilled, LeadsRunning, named_client, added_outcomes, opened_world, header_of_filling}
+use Rattle.world_script.specs.Progress.{IsAt, IsOpened, MakesMove, StopsAtMove, SaysAll, SaysText, OpensWorld, running_world}
 use Rattle.world_script.proofs.Moves.{joined-map, joined_one, StopsAt-from_all, StopsAt-from_text}
 
 pub is_true : (b : Bool) → (b ≡ false → ⊥) → b ≡ true
@@ -25,7 +25,7 @@ is_true true h = refl
 is_true false h = absurd (h refl)
 
 -- the place after a step that was made
-pub after_step : Kept → State → Place
+pub after_step : Kept → State → ScriptPlace
 after_step w t = Running (record { header = w.header; clients = length w.ends; state = t })
 
 -- the place is that of the world as it is now
@@ -43,7 +43,7 @@ told_is w v s t before e p q =
     ∙ ap (λ (x : List Outcome). drop (length (outcomes_of s.log)) x) q.outcomes_are
 
 -- the move of a step that was made
-pub made : (w : Kept) (s t : State) (step : Step) → has_client step (length w.ends) ≡ true → Steps (setting_in w.header) s step t →
+pub made : (w : Kept) (s t : State) (step : Step) → has_client step (length w.ends) ≡ true → StepsTo (setting_in w.header) s step t →
     MakesStep (running_world w s) step (Goes (after_step w t) (map outcome_text (added_outcomes s t)))
 unfolding after_step
 made w s t step has steps = inl (has, (t, steps, refl))
@@ -51,9 +51,9 @@ made w s t step has steps = inl (has, (t, steps, refl))
 -- a step was made, and all that came of it was printed
 pub MovesTo-from_step : (w v : Kept) (s t : State) (step : Step) (n : ℕ) (before : List Outcome) (o new : Option (List ℕ)) →
     v.header ≡ w.header → length v.ends ≡ length w.ends → v.broken ≡ false → before ≡ w.outcomes → IsRunOf w s → IsRunOf v t →
-    has_client step (length w.ends) ≡ true → Steps (setting_in w.header) s step t →
+    has_client step (length w.ends) ≡ true → StepsTo (setting_in w.header) s step t →
     Appends o new (flat_map outcome_text (drop (length before) v.outcomes)) →
-    MovesTo (MakesStep (running_world w s) step) n o (Ok (progress.Running v)) new
+    MakesMove (MakesStep (running_world w s) step) n o (Ok (progress.Running v)) new
 MovesTo-from_step w v s t step n before o new e ends alive b p q has steps said = (
   after_step w t,
   map outcome_text (added_outcomes s t),
@@ -65,7 +65,7 @@ MovesTo-from_step w v s t step n before o new e ends alive b p q has steps said 
 -- a step was made, and not all that came of it was printed
 pub StopsAt-from_step : (w v : Kept) (s t : State) (step : Step) (n : ℕ) (before : List Outcome) (o new : Option (List ℕ)) (e : Stop) →
     before ≡ w.outcomes → IsRunOf w s → IsRunOf v t →
-    has_client step (length w.ends) ≡ true → Steps (setting_in w.header) s step t →
+    has_client step (length w.ends) ≡ true → StepsTo (setting_in w.header) s step t →
     SaysAll (drop (length before) v.outcomes) o (Err e) new → StopsAtMove (MakesStep (running_world w s) step) n o e new
 StopsAt-from_step w v s t step n before o new e b p q has steps said =
     StopsAt-from_all (MakesStep (running_world w s) step) n (after_step w t) (added_outcomes s t) o new e (made w s t step has steps)
@@ -78,7 +78,7 @@ unmade w s step has = inr (has, refl)
 
 pub MovesTo-from_none : (w v : Kept) (s : State) (step : Step) (n k : ℕ) (o new : Option (List ℕ)) → v ≡ w → w.broken ≡ false → IsRunOf w s →
     has_client step (length w.ends) ≡ false → k ≡ named_client step → Appends o new (no_client_text k) →
-    MovesTo (MakesStep (running_world w s) step) n o (Ok (progress.Running v)) new
+    MakesMove (MakesStep (running_world w s) step) n o (Ok (progress.Running v)) new
 MovesTo-from_none w v s step n k o new same alive run has named said = (
   Running (running_world w s),
   no_client_text (named_client step) ∷ [],

@@ -9,16 +9,16 @@ use Rattle.pir_world.specs.Runs.{State, opening}
 use Rattle.pir_world.specs.Worlds.{Kept, IsRunOf}
 use Rattle.world_script.specs.declared.progress.Progress.{Progress}
 use Rattle.world_script.specs.declared.progress.Progress.TheVariants as progress
-use Rattle.world_script.specs.declared.progress.Opening.{Opening}
+use Rattle.world_script.specs.declared.progress.WorldOpening.{WorldOpening}
 use Rattle.world_script.specs.declared.stop.Stop.{Stop}
 use Rattle.world_script.specs.declared.stop.Stop.TheVariants as stop
 use Rattle.world_script.specs.declared.play.RehearseFault.{RehearseFault}
 use Rattle.world_script.specs.declared.play.RehearseFault.TheVariants as fault
 use Rattle.world_script.specs.Texts.{outcome_text, bad_line_text, refused_world_text, too_long_text, memory_text}
-use Rattle.world_script.specs.Scripts.{Filling, RunningWorld, Place, Move, Start, Sized, Filled, Running, Goes, Bad, Refused, header_of_filling, joined_texts}
+use Rattle.world_script.specs.Scripts.{Filling, RunningWorld, ScriptPlace, ScriptMove, Start, Sized, Filled, Running, Goes, Bad, Refused, header_of_filling, joined_texts}
 
 -- what a header has said
-abbrev pub filling_of : Opening → Filling
+abbrev pub filling_of : WorldOpening → Filling
 filling_of o = record { sizes = o.sizes; seed = o.seed; records = o.records.items; count = o.count; clients = o.clients.items }
 
 -- a world in a state
@@ -26,7 +26,7 @@ abbrev pub running_world : Kept → State → RunningWorld
 running_world w s = record { header = w.header; clients = length w.ends; state = s }
 
 -- progress is at a place: of a world, its steps lead to the state
-abbrev pub IsAt : Progress → Place → Type 0
+abbrev pub IsAt : Progress → ScriptPlace → Type 0
 IsAt progress.Start place = place ≡ Start
 IsAt (progress.Sized sizes) place = place ≡ Sized sizes
 IsAt (progress.Filling o) place = place ≡ Filled (filling_of o)
@@ -41,32 +41,32 @@ SaysAll outcomes old (Err stop.Write) new =
 SaysAll outcomes old (Err _) new = ⊥
 
 -- why a script ends at moves of a kind, and what was printed on the way
-abbrev pub StopsAtMove : (Move → Type 0) → ℕ → Option (List ℕ) → Stop → Option (List ℕ) → Type 0
+abbrev pub StopsAtMove : (ScriptMove → Type 0) → ℕ → Option (List ℕ) → Stop → Option (List ℕ) → Type 0
 StopsAtMove Makes number old (stop.BadLine n) new = (n ≡ number) × Makes Bad × Appends old new []
 StopsAtMove Makes number old (stop.World fault) new = Makes (Refused fault) × Appends old new []
 StopsAtMove Makes number old stop.Memory new =
     Appends old new []
-    ⊎ ((next : Place) × (texts : List (List ℕ)) × (k : ℕ) × Makes (Goes next texts) × Appends old new (joined_texts (take k texts)))
+    ⊎ ((next : ScriptPlace) × (texts : List (List ℕ)) × (k : ℕ) × Makes (Goes next texts) × Appends old new (joined_texts (take k texts)))
 StopsAtMove Makes number old stop.Write new =
-    (next : Place) × (texts : List (List ℕ)) × (k : ℕ) × Makes (Goes next texts) × (k < length (joined_texts texts)) × Appends old new (take k (joined_texts texts))
+    (next : ScriptPlace) × (texts : List (List ℕ)) × (k : ℕ) × Makes (Goes next texts) × (k < length (joined_texts texts)) × Appends old new (take k (joined_texts texts))
 StopsAtMove Makes number old _ new = ⊥
 
 -- one of these moves is made, and its texts are printed
-abbrev pub MovesTo : (Move → Type 0) → ℕ → Option (List ℕ) → Result Progress Stop → Option (List ℕ) → Type 0
-MovesTo Makes number old (Ok s) new =
-    (next : Place) × (texts : List (List ℕ)) × IsAt s next × Makes (Goes next texts) × Appends old new (joined_texts texts)
-MovesTo Makes number old (Err e) new = StopsAtMove Makes number old e new
+abbrev pub MakesMove : (ScriptMove → Type 0) → ℕ → Option (List ℕ) → Result Progress Stop → Option (List ℕ) → Type 0
+MakesMove Makes number old (Ok s) new =
+    (next : ScriptPlace) × (texts : List (List ℕ)) × IsAt s next × Makes (Goes next texts) × Appends old new (joined_texts texts)
+MakesMove Makes number old (Err e) new = StopsAtMove Makes number old e new
 
 -- one of these moves is made, and nothing is printed
-abbrev pub MovesQuietly : (Move → Type 0) → ℕ → Result Progress Stop → Type 0
-MovesQuietly Makes number (Ok s) = (next : Place) × IsAt s next × Makes (Goes next [])
+abbrev pub MovesQuietly : (ScriptMove → Type 0) → ℕ → Result Progress Stop → Type 0
+MovesQuietly Makes number (Ok s) = (next : ScriptPlace) × IsAt s next × Makes (Goes next [])
 MovesQuietly Makes number (Err (stop.BadLine n)) = (n ≡ number) × Makes Bad
 MovesQuietly Makes number (Err stop.Memory) = Unit {0}
 MovesQuietly Makes number (Err _) = ⊥
 
 -- the end of a script is such a move
-abbrev pub EndsAs : (Move → Type 0) → ℕ → Result (Unit {0}) Stop → Type 0
-EndsAs Makes number (Ok _) = (next : Place) × Makes (Goes next [])
+abbrev pub EndsAs : (ScriptMove → Type 0) → ℕ → Result (Unit {0}) Stop → Type 0
+EndsAs Makes number (Ok _) = (next : ScriptPlace) × Makes (Goes next [])
 EndsAs Makes number (Err (stop.BadLine n)) = (n ≡ number) × Makes Bad
 EndsAs Makes number (Err (stop.World fault)) = Makes (Refused fault)
 EndsAs Makes number (Err stop.Memory) = Unit {0}
@@ -108,7 +108,7 @@ last_status stop.Memory = 4
 last_status _ = 3
 
 -- bytes that were printed, the first of a script's
-pub record IsCutShort (Prints : List ℕ → ℕ → Type 0) (old new : Option (List ℕ)) : Type 0 where
+pub record IsOutputCutShort (Prints : List ℕ → ℕ → Type 0) (old new : Option (List ℕ)) : Type 0 where
   pub printed : List ℕ
   pub status : ℕ
   pub count : ℕ
@@ -126,7 +126,7 @@ pub record IsBefore (Prints : List ℕ → ℕ → Type 0) (e : Stop) (old new :
 
 -- how a script ends early
 abbrev pub StopsScript : (List ℕ → ℕ → Type 0) → Option (List ℕ) → Stop → Option (List ℕ) → Type 0
-StopsScript Prints old stop.Write new = IsCutShort Prints old new
+StopsScript Prints old stop.Write new = IsOutputCutShort Prints old new
 StopsScript Prints old stop.Read new = ⊥
 StopsScript Prints old e new = IsBefore Prints e old new
 

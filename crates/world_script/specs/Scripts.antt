@@ -11,7 +11,7 @@ use Rattle.version_store.specs.Openings.{IsOpenFault, plan_held}
 use Rattle.pir_world.specs.declared.steps.Step.{Step}
 use Rattle.pir_world.specs.declared.steps.Step.TheVariants as step
 use Rattle.pir_world.specs.declared.steps.Outcome.{Outcome}
-use Rattle.pir_world.specs.Runs.{State, Steps, setting_in, opening, outcomes_of}
+use Rattle.pir_world.specs.Runs.{State, StepsTo, setting_in, opening, outcomes_of}
 use Rattle.pir_world.specs.Headlines.{IsOpening}
 use Rattle.pir_world.specs.Sides.{has_client}
 use Rattle.world_script.specs.declared.line.HeaderSizes.{HeaderSizes}
@@ -38,18 +38,18 @@ pub record RunningWorld : Type 0 where
   pub state : State
 
 -- nothing was said; the sizes were; the seed was, and maybe records and clients; steps are made
-pub data Place : Type 0 where
-  Start : Place
-  Sized : (sizes : HeaderSizes) → Place
-  Filled : (filling : Filling) → Place
-  Running : (world : RunningWorld) → Place
+pub data ScriptPlace : Type 0 where
+  Start : ScriptPlace
+  Sized : (sizes : HeaderSizes) → ScriptPlace
+  Filled : (filling : Filling) → ScriptPlace
+  Running : (world : RunningWorld) → ScriptPlace
 
 -- what a line leads to: the next place and the texts that are printed on the way, or an end of the
 -- script
-pub data Move : Type 0 where
-  Goes : (next : Place) (texts : List (List ℕ)) → Move
-  Bad : Move
-  Refused : (fault : OpenError) → Move
+pub data ScriptMove : Type 0 where
+  Goes : (next : ScriptPlace) (texts : List (List ℕ)) → ScriptMove
+  Bad : ScriptMove
+  Refused : (fault : OpenError) → ScriptMove
 
 -- ---- the header
 
@@ -85,21 +85,21 @@ abbrev pub with_client : Filling → List ℕ → Filling
 with_client f seed = record f { clients = f.clients ++ seed ∷ [] }
 
 -- a record has its place before all clients, and a length that the sizes allow
-abbrev pub record_move : Filling → List ℕ → Move
+abbrev pub record_move : Filling → List ℕ → ScriptMove
 record_move f bytes =
     if (length f.clients == 0) && fits (plan_of_filling f) bytes then Goes (Filled (with_record f bytes)) [] else Bad
 
 -- a client has its place after the records, if there are fewer than 16
-abbrev pub client_move : Filling → List ℕ → Move
+abbrev pub client_move : Filling → List ℕ → ScriptMove
 client_move f seed = if nat_lt 0 f.count && nat_lt (length f.clients) 16 then Goes (Filled (with_client f seed)) [] else Bad
 
 -- what the first line of a header leads to
-abbrev pub start_move : Line → Move
+abbrev pub start_move : Line → ScriptMove
 start_move (line.World sizes) = Goes (Sized sizes) []
 start_move _ = Bad
 
 -- what its second line leads to
-abbrev pub sized_move : HeaderSizes → Line → Move
+abbrev pub sized_move : HeaderSizes → Line → ScriptMove
 sized_move sizes (line.Seed seed) = Goes (Filled (record { sizes = sizes; seed = seed; records = []; count = 0; clients = [] })) []
 sized_move sizes _ = Bad
 
@@ -114,7 +114,7 @@ opened_world f = record {
 }
 
 -- the world is opened and goes on, or it is refused for a fault of what it is opened with
-abbrev pub Opens : Filling → (RunningWorld → Move → Type 0) → Move → Type 0
+abbrev pub Opens : Filling → (RunningWorld → ScriptMove → Type 0) → ScriptMove → Type 0
 Opens f goes move =
     (IsOpening (header_of_filling f) f.records × goes (opened_world f) move)
     ⊎ ((fault : OpenError) × (fault ≢ opening_error.Memory) × IsOpenFault (header_of_filling f) f.records fault × (move ≡ Refused fault))
@@ -133,18 +133,18 @@ abbrev pub added_outcomes : State → State → List Outcome
 added_outcomes s t = drop (length (outcomes_of s.log)) (outcomes_of t.log)
 
 -- a step is made, and each outcome that it adds is printed; or it names a client that doesn't exist
-abbrev pub MakesStep : RunningWorld → Step → Move → Type 0
+abbrev pub MakesStep : RunningWorld → Step → ScriptMove → Type 0
 MakesStep c s move =
     ((has_client s c.clients ≡ true)
     × ((t : State)
-    × Steps (setting_in c.header) c.state s t
+    × StepsTo (setting_in c.header) c.state s t
     × (move ≡ Goes (Running (record c { state = t })) (map outcome_text (added_outcomes c.state t)))))
     ⊎ ((has_client s c.clients ≡ false) × (move ≡ Goes (Running c) (no_client_text (named_client s) ∷ [])))
 
 -- ---- lines
 
 -- what a line leads to once the seed was said; the first step opens the world
-abbrev pub LeadsFilled : Filling → Line → Move → Type 0
+abbrev pub LeadsFilled : Filling → Line → ScriptMove → Type 0
 LeadsFilled f (line.Step s) move =
     ((length f.clients ≡ 0) × (move ≡ Bad)) ⊎ ((0 < length f.clients) × Opens f (λ c m. MakesStep c s m) move)
 LeadsFilled f (line.Record bytes) move = move ≡ record_move f bytes
@@ -152,29 +152,29 @@ LeadsFilled f (line.Client seed) move = move ≡ client_move f seed
 LeadsFilled f _ move = move ≡ Bad
 
 -- what a line leads to while the world runs
-abbrev pub LeadsRunning : RunningWorld → Line → Move → Type 0
+abbrev pub LeadsRunning : RunningWorld → Line → ScriptMove → Type 0
 LeadsRunning c (line.Step s) move = MakesStep c s move
 LeadsRunning c _ move = move ≡ Bad
 
 -- what a line leads to at a place
-abbrev pub Leads : Place → Line → Move → Type 0
+abbrev pub Leads : ScriptPlace → Line → ScriptMove → Type 0
 Leads Start l move = move ≡ start_move l
 Leads (Sized sizes) l move = move ≡ sized_move sizes l
 Leads (Filled f) l move = LeadsFilled f l move
 Leads (Running c) l move = LeadsRunning c l move
 
 -- a line as it was read; one that is not written so is bad
-abbrev pub LeadsRead : Place → Option Line → Move → Type 0
+abbrev pub LeadsRead : ScriptPlace → Option Line → ScriptMove → Type 0
 LeadsRead place None move = move ≡ Bad
 LeadsRead place (Some l) move = Leads place l move
 
 -- a line of a script; a silent one leads nowhere
-abbrev pub LeadsText : Place → List ℕ → Move → Type 0
+abbrev pub LeadsText : ScriptPlace → List ℕ → ScriptMove → Type 0
 LeadsText place text move =
     ((is_silent text ≡ true) × (move ≡ Goes place [])) ⊎ ((is_silent text ≡ false) × LeadsRead place (line_of text) move)
 
 -- what the end of a script leads to; a world that made no step is opened now
-abbrev pub LeadsAtEnd : Place → Move → Type 0
+abbrev pub LeadsAtEnd : ScriptPlace → ScriptMove → Type 0
 LeadsAtEnd (Filled f) move =
     ((length f.clients ≡ 0) × (move ≡ Bad))
     ⊎ ((0 < length f.clients) × Opens f (λ c m. m ≡ Goes (Running c) []) move)
@@ -193,7 +193,7 @@ IsOutOfMemory printed status = (printed ≡ memory_text) × (status ≡ 4)
 
 -- what is printed from a move on, and the status. The number is that of the line. Memory may be
 -- refused after any of the texts.
-abbrev pub FollowsMove : ℕ → (Place → List ℕ → ℕ → Type 0) → Move → List ℕ → ℕ → Type 0
+abbrev pub FollowsMove : ℕ → (ScriptPlace → List ℕ → ℕ → Type 0) → ScriptMove → List ℕ → ℕ → Type 0
 FollowsMove number then_ (Goes next texts) printed status =
     ((rest : List ℕ) × (printed ≡ joined_texts texts ++ rest) × then_ next rest status)
     ⊎ ((k : ℕ) × (printed ≡ joined_texts (take k texts) ++ memory_text) × (status ≡ 4))
@@ -201,17 +201,17 @@ FollowsMove number then_ Bad printed status = (printed ≡ bad_line_text number)
 FollowsMove number then_ (Refused fault) printed status = (printed ≡ refused_world_text fault) × (status ≡ 3)
 
 -- a script that was played to its end prints nothing more
-abbrev pub IsOver : Place → List ℕ → ℕ → Type 0
-IsOver place printed status = (printed ≡ []) × (status ≡ 0)
+abbrev pub IsPlayedOut : ScriptPlace → List ℕ → ℕ → Type 0
+IsPlayedOut place printed status = (printed ≡ []) × (status ≡ 0)
 
 -- What these lines print from a place on, and the status. The number is that of the next line.
 -- Memory may be refused at any of them.
-abbrev pub Plays : List (List ℕ) → Place → ℕ → List ℕ → ℕ → Type 0
+abbrev pub Plays : List (List ℕ) → ScriptPlace → ℕ → List ℕ → ℕ → Type 0
 Plays [] place number printed status =
-    IsOutOfMemory printed status ⊎ ((move : Move) × LeadsAtEnd place move × FollowsMove number IsOver move printed status)
+    IsOutOfMemory printed status ⊎ ((move : ScriptMove) × LeadsAtEnd place move × FollowsMove number IsPlayedOut move printed status)
 Plays (text ∷ texts) place number printed status =
     IsOutOfMemory printed status
-    ⊎ ((move : Move) × LeadsText place text move × FollowsMove number (λ next rest s. Plays texts next (number + 1) rest s) move printed status)
+    ⊎ ((move : ScriptMove) × LeadsText place text move × FollowsMove number (λ next rest s. Plays texts next (number + 1) rest s) move printed status)
 
 -- What a script prints, and the status: it is played, or it is too long. `script` has its bytes as
 -- far as they were read, `left` those after them.

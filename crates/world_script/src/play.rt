@@ -4,8 +4,8 @@ ghost use Rattle.std.specs.Prelude.{◌≡◌, ◌≤◌, ◌<◌, ◌⊎◌, �
 ghost use Rattle.std.specs.Prelude.{MatchOption, length, take};
 ghost use Rattle.std.specs.Io.KnownBytes.{Appends, Consumes};
 ghost use Rattle.world_script.specs.Lines.{is_silent, lines_of};
-ghost use Rattle.world_script.specs.Scripts.{IsRehearsal, LeadsText, Place, Plays, Start};
-ghost use Rattle.world_script.specs.Progress.{IsAt, IsEarly, MovesTo, PlaysScript, ReportsEnd};
+ghost use Rattle.world_script.specs.Scripts.{IsRehearsal, LeadsText, ScriptPlace, Plays, Start};
+ghost use Rattle.world_script.specs.Progress.{IsAt, IsEarly, MakesMove, PlaysScript, ReportsEnd};
 ghost use Rattle.world_script.specs.Progress.{SaysText, last_text};
 
 use crate::input::read_script;
@@ -173,7 +173,8 @@ fn play_line<W: Write>(
     text: &[u8],
     writer: &mut W,
 ) -> Result<Progress, Stop>
-    ensures { (place : Place) → IsAt progress place → MovesTo (LeadsText place text.now) number
+    ensures { (place : ScriptPlace) → IsAt progress place →
+        MakesMove (LeadsText place text.now) number
         (W.contents writer.old) result (W.contents writer.new) }
 {
     if is_silent(text) {

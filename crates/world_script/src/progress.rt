@@ -5,10 +5,11 @@ ghost use Rattle.pir_world.specs.Runs.{State};
 ghost use Rattle.pir_world.specs.Worlds.{IsRunOf};
 ghost use Rattle.world_script.specs.Texts.{no_client_text};
 ghost use Rattle.pir_schemes.specs.Plans.{fits};
-ghost use Rattle.world_script.specs.Scripts.{Leads, LeadsAtEnd, LeadsFilled, MakesStep, Place};
+ghost use Rattle.world_script.specs.Scripts.{Leads, LeadsAtEnd, LeadsFilled, MakesStep};
+ghost use Rattle.world_script.specs.Scripts.{ScriptPlace};
 ghost use Rattle.world_script.specs.Scripts.{client_move, kept_of, named_client, plan_of_filling};
 ghost use Rattle.world_script.specs.Scripts.{record_move, sized_move, start_move};
-ghost use Rattle.world_script.specs.Progress.{EndsAs, IsAt, MovesQuietly, MovesTo, OpensWorld};
+ghost use Rattle.world_script.specs.Progress.{EndsAs, IsAt, MovesQuietly, MakesMove, OpensWorld};
 ghost use Rattle.world_script.specs.Progress.{SaysAll, SaysText, running_world, filling_of};
 
 use crate::line::{HeaderSizes, Line};
@@ -38,14 +39,14 @@ pub enum Progress {
     /// The sizes were.
     Sized(HeaderSizes),
     /// The seed was, and maybe records, and after these maybe clients.
-    Filling(Opening),
+    Filling(WorldOpening),
     /// Steps are made.
     Running(World<Lanes>),
 }
 
 /// What a world is opened with.
 #[derive(Drop)]
-pub struct Opening {
+pub struct WorldOpening {
     sizes: HeaderSizes,
     seed: [u8; 32],
     records: Vec<u8>,
@@ -62,8 +63,8 @@ impl Progress {
         line: Line,
         writer: &mut W,
     ) -> Result<Progress, Stop>
-        ensures { (place : Place) → IsAt self place →
-            MovesTo (Leads place line) number (W.contents writer.old) result
+        ensures { (place : ScriptPlace) → IsAt self place →
+            MakesMove (Leads place line) number (W.contents writer.old) result
             (W.contents writer.new) }
     {
         match self {
@@ -82,7 +83,8 @@ impl Progress {
 
     /// Ends the script before the line of a number. A world that made no step is opened now.
     pub fn end(self, alloc: Global, number: u64) -> Result<(), Stop>
-        ensures { (place : Place) → IsAt self place → EndsAs (LeadsAtEnd place) number result }
+        ensures { (place : ScriptPlace) → IsAt self place →
+            EndsAs (LeadsAtEnd place) number result }
     {
         match self {
             Progress::Start => Err(Stop::BadLine { number }),
@@ -122,7 +124,7 @@ fn seeded(alloc: Global, number: u64, sizes: HeaderSizes, line: Line) -> Result<
     ensures { MovesQuietly (λ move. move ≡ sized_move sizes line) number result }
 {
     match line {
-        Line::Seed(seed) => Ok(Progress::Filling(Opening {
+        Line::Seed(seed) => Ok(Progress::Filling(WorldOpening {
             sizes,
             seed,
             records: Vec::new(alloc),
@@ -133,7 +135,7 @@ fn seeded(alloc: Global, number: u64, sizes: HeaderSizes, line: Line) -> Result<
     }
 }
 
-impl Opening {
+impl WorldOpening {
     /// Takes a line once the seed was said. The first step opens the world.
     fn take<W: Write>(
         self,
@@ -142,7 +144,7 @@ impl Opening {
         line: Line,
         writer: &mut W,
     ) -> Result<Progress, Stop>
-        ensures { MovesTo (LeadsFilled (filling_of self) line) number
+        ensures { MakesMove (LeadsFilled (filling_of self) line) number
             (W.contents writer.old) result (W.contents writer.new) }
     {
         match line {
@@ -205,7 +207,7 @@ impl Opening {
         step: Step,
         writer: &mut W,
     ) -> Result<Progress, Stop>
-        ensures { MovesTo (LeadsFilled (filling_of self) (Line.Step step)) number
+        ensures { MakesMove (LeadsFilled (filling_of self) (Line.Step step)) number
             (W.contents writer.old) result (W.contents writer.new) }
     {
         if self.clients.is_empty() {
@@ -221,7 +223,7 @@ impl Opening {
     fn open(self, alloc: Global) -> Result<World<Lanes>, Stop>
         ensures { OpensWorld (filling_of self) result }
     {
-        let Opening {
+        let WorldOpening {
             sizes,
             seed,
             records,
@@ -282,7 +284,7 @@ fn make_step<W: Write>(
     writer: &mut W,
 ) -> Result<Progress, Stop>
     ensures { (s : State) (number : ℕ) → IsRunOf world s → world.broken ≡ false →
-        MovesTo (MakesStep (running_world world s) step) number
+        MakesMove (MakesStep (running_world world s) step) number
         (W.contents writer.old) result (W.contents writer.new) }
 {
     let client = client_of(&step);

@@ -1,7 +1,7 @@
 //! The steps of a replacement on a disk in memory. Those of which one fails, and what a real folder
 //! has after each, are in `tests`. Proved by `tests/long/run --prove`.
 
-use safe_files::{Bytes, Disk, DiskFailed, ReplaceFault, replace};
+use safe_files::{BytesInMemory, Disk, DiskFailed, ReplaceFault, replace};
 use std::alloc::Global;
 use std::io;
 use std::io::{ErrorKind, Write};
@@ -132,7 +132,7 @@ fn replaced(
     fails: Option<Name>,
 ) -> Result<(Result<(), ReplaceFault>, MemoryDisk), Fail> {
     let mut disk = MemoryDisk::new(alloc, fails)?;
-    let result = replace(alloc, &mut disk, &Bytes(NEW));
+    let result = replace(alloc, &mut disk, &BytesInMemory(NEW));
     Ok((result, disk))
 }
 

@@ -2,7 +2,7 @@
 //! Proved by `tests/long/run --prove`.
 
 use crate::{SimulatedDisk, SimulatedFiles};
-use safe_files::{Bytes, replace_file};
+use safe_files::{BytesInMemory, replace_file};
 use std::alloc::Global;
 use std::cell::RefCell;
 use std::fs::{File, OpenFile};
@@ -41,7 +41,7 @@ fn is_whole_after(alloc: Global, seed: u64, calls: u32) -> Result<bool, Fail> {
     let files = SimulatedFiles::new(&disk, alloc, 0);
     write_synced(files, b"old", true)?;
     disk.try_borrow_mut()?.cut_after(0, Some(calls));
-    let is_done = replace_file(&files, "m/a", &Bytes(b"new")).is_ok();
+    let is_done = replace_file(&files, "m/a", &BytesInMemory(b"new")).is_ok();
     crash(&disk)?;
     let found = fs::read(&files, "m/a")?;
     let is_new = found.as_slice() == b"new".as_slice();

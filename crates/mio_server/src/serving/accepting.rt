@@ -4,11 +4,11 @@ ghost use Rattle.std.specs.Prelude.{◌≡◌, ◌<◌, ◌↔◌, ℕ, None, Is
 ghost use Rattle.mio_server.specs.Accepting.{HasEnough};
 
 use super::{Service, note_closing};
-use connection_table::{Closing, Connection, RunFault, SavedServer, Saver};
+use connection_table::{Closing, RunFault, SavedServer, Saver, ServedConnection};
 use connection_turns::ConnectionState;
 use mio::net::TcpStream;
 use mio::{Interest, Token};
-use service_watch::{Counted, Event};
+use service_watch::{Counted, ServiceEvent};
 use std::io;
 use std::io::ErrorKind;
 use std::net::{IpAddr, SocketAddr};
@@ -160,11 +160,11 @@ impl Service {
         self.next_id = next_id;
         self.place_from = place + 1;
         self.log
-            .note_connection(rt, Event::Accepted, id, address, None);
+            .note_connection(rt, ServiceEvent::Accepted, id, address, None);
         server.counters.add(Counted::Accepted, 1);
         // A reply is one write: it is not to wait for more.
         let _ = stream.set_nodelay(true);
-        let connection = Connection::opened(
+        let connection = ServedConnection::opened(
             stream,
             address,
             peer,

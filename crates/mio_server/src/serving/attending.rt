@@ -65,7 +65,7 @@ impl Service {
             saved: tallies.saved,
             unfinished: held.saturating_sub(owed),
             owed,
-            left_out: self.log.left_out(),
+            left_out: self.log.all_left_out(),
         }
     }
 

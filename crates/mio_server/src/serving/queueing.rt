@@ -1,4 +1,4 @@
-//! Whose turn it is, and when something is due.
+//! What gives a connection its turn: an event, something that is due, or more to do.
 
 ghost use Rattle.std.specs.Prelude.{◌≡◌, ◌≤◌, ◌<◌, ℕ, slice_set};
 

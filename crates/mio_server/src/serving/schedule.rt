@@ -1,4 +1,4 @@
-//! Whose turn it is, and when something is due.
+//! The lists of places whose turn it is, and the moments of the looks at all connections.
 
 ghost use Rattle.std.specs.Prelude.{◌≡◌, ℕ};
 

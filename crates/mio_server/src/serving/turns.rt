@@ -4,8 +4,8 @@ ghost use Rattle.std.specs.Prelude.{◌≡◌, ◌≤◌, ◌<◌, ℕ, slice_ge
 ghost use Rattle.std.specs.Prelude.{true, false};
 
 use super::{Service, note_closing};
-use connection_table::{Closing, Connection, RunFault, SavedServer, Saver, TurnResult};
-use service_watch::{Cause, Counted, Event};
+use connection_table::{Closing, RunFault, SavedServer, Saver, ServedConnection, TurnResult};
+use service_watch::{Cause, Counted, ServiceEvent};
 use std::mem;
 
 impl Service {
@@ -214,7 +214,7 @@ impl Service {
         rt: &HostRuntime,
         server: &mut SavedServer<S>,
         place: usize,
-        connection: Connection,
+        connection: ServedConnection,
         outcome: TurnResult,
     ) -> bool
         requires within { place < length self.old.places.connections.items }
@@ -251,7 +251,7 @@ impl Service {
             }
             _ => {
                 self.log
-                    .note_connection(rt, Event::Closed, id, address, None);
+                    .note_connection(rt, ServiceEvent::Closed, id, address, None);
                 server.counters.add(Counted::Closed(Cause::End), 1);
             }
         }
@@ -267,7 +267,7 @@ impl Service {
         rt: &HostRuntime,
         server: &mut SavedServer<S>,
         place: usize,
-        connection: Connection,
+        connection: ServedConnection,
     )
         requires within { place < length self.old.places.connections.items }
         requires free { connection_at self.old.places.connections.items place ≡ None }

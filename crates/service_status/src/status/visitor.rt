@@ -25,7 +25,7 @@ const LEAVE: u64 = 500;
 
 /// What a call on a socket came to.
 #[derive(Clone, Copy, PartialEq, Eq)]
-pub enum Call {
+pub enum SocketCall {
     /// The call would have waited.
     Waited,
     /// So many bytes were read or written.
@@ -38,7 +38,7 @@ pub enum Call {
 
 // What a visitor does.
 #[derive(Clone, Copy, PartialEq, Eq)]
-enum Stage {
+enum VisitStage {
     // Its request is not whole.
     Asks,
     // Its request is whole, and there is no response.
@@ -54,7 +54,7 @@ enum Stage {
 #[derive(Drop)]
 pub struct Visitor {
     stream: TcpStream,
-    stage: Stage,
+    stage: VisitStage,
     // What came of its request.
     head: Vec<u8>,
     response: String,
@@ -67,25 +67,25 @@ pub struct Visitor {
     ghost bounded: { length head.items ≤ 4096 },
 }
 
-impl Call {
+impl SocketCall {
     /// Whether a visitor is over after it.
     pub fn ends(self) -> bool
         ensures { IsTrue result ↔ EndsVisit self }
     {
         match self {
-            Call::Ended | Call::Failed => true,
-            Call::Waited | Call::Moved(_) => false,
+            SocketCall::Ended | SocketCall::Failed => true,
+            SocketCall::Waited | SocketCall::Moved(_) => false,
         }
     }
 
     // That of a result.
-    fn of(done: io::Result<usize>) -> Call {
+    fn of(done: io::Result<usize>) -> SocketCall {
         match done {
-            Ok(0) => Call::Ended,
-            Ok(count) => Call::Moved(count),
-            Err(e) if e.kind() == ErrorKind::WouldBlock => Call::Waited,
-            Err(e) if e.kind() == ErrorKind::Interrupted => Call::Moved(0),
-            Err(_) => Call::Failed,
+            Ok(0) => SocketCall::Ended,
+            Ok(count) => SocketCall::Moved(count),
+            Err(e) if e.kind() == ErrorKind::WouldBlock => SocketCall::Waited,
+            Err(e) if e.kind() == ErrorKind::Interrupted => SocketCall::Moved(0),
+            Err(_) => SocketCall::Failed,
         }
     }
 }
@@ -95,7 +95,7 @@ impl Visitor {
     pub fn opened(alloc: Global, stream: TcpStream, now: u64) -> Visitor {
         Visitor {
             stream,
-            stage: Stage::Asks,
+            stage: VisitStage::Asks,
             head: Vec::new(alloc),
             response: String::new(alloc),
             written: 0,
@@ -115,7 +115,7 @@ impl Visitor {
 
     /// Whether its request is whole, and there is no response.
     pub fn wants(&self) -> bool {
-        matches!(self.stage, Stage::Wants(_))
+        matches!(self.stage, VisitStage::Wants(_))
     }
 
     /// The moment at which something is to be done for it, even if no event comes.
@@ -123,9 +123,9 @@ impl Visitor {
         ensures { result ≤ self.now.until }
     {
         let busy = match self.stage {
-            Stage::Asks | Stage::Leaves => self.readable,
-            Stage::Wants(_) => true,
-            Stage::Gets => self.writable,
+            VisitStage::Asks | VisitStage::Leaves => self.readable,
+            VisitStage::Wants(_) => true,
+            VisitStage::Gets => self.writable,
         };
         if busy { 0 } else { self.until }
     }
@@ -142,53 +142,53 @@ impl Visitor {
             return true;
         }
         let call = match self.stage {
-            Stage::Asks => self.read_head(),
-            Stage::Leaves => self.forget(),
-            Stage::Wants(_) | Stage::Gets => return true,
+            VisitStage::Asks => self.read_head(),
+            VisitStage::Leaves => self.forget(),
+            VisitStage::Wants(_) | VisitStage::Gets => return true,
         };
-        self.readable = call != Call::Waited;
+        self.readable = call != SocketCall::Waited;
         !call.ends()
     }
 
     // Reads a part of the request.
-    fn read_head(&mut self) -> Call
+    fn read_head(&mut self) -> SocketCall
         ensures { self.new.until ≡ self.old.until }
     {
         let mut room = [0u8; MOST_HEAD];
         let free = MOST_HEAD - self.head.len();
         let mut stream = &self.stream;
-        let call = Call::of(stream.read(&mut room[..free]));
-        let Call::Moved(count) = call else {
+        let call = SocketCall::of(stream.read(&mut room[..free]));
+        let SocketCall::Moved(count) = call else {
             return call;
         };
         if count > free || self.head.extend_from_slice(&room[..count]).is_err() {
-            return Call::Failed;
+            return SocketCall::Failed;
         }
         if let Some(page) = page_within(&self.head) {
-            self.stage = Stage::Wants(page);
+            self.stage = VisitStage::Wants(page);
         }
         call
     }
 
     // Reads what still comes.
-    fn forget(&mut self) -> Call
+    fn forget(&mut self) -> SocketCall
         ensures { self.new.until ≡ self.old.until }
     {
         let mut stream = &self.stream;
-        Call::of(stream.read(&mut [0u8; MOST_HEAD]))
+        SocketCall::of(stream.read(&mut [0u8; MOST_HEAD]))
     }
 
     /// Makes the response, if the request is whole. Returns whether it stays.
     pub fn answer(&mut self, alloc: Global, figures: &Figures) -> bool
         ensures { self.new.until ≡ self.old.until }
     {
-        let Stage::Wants(page) = self.stage else {
+        let VisitStage::Wants(page) = self.stage else {
             return true;
         };
         match response_for(alloc, page, figures) {
             Ok(text) => {
                 self.response = text;
-                self.stage = Stage::Gets;
+                self.stage = VisitStage::Gets;
                 true
             }
             Err(_) => false,
@@ -204,12 +204,12 @@ impl Visitor {
         if self.until <= now {
             return false;
         }
-        if self.stage != Stage::Gets || !self.writable {
+        if self.stage != VisitStage::Gets || !self.writable {
             return true;
         }
         let call = self.write_rest();
-        self.writable = call != Call::Waited;
-        if let Call::Moved(count) = call {
+        self.writable = call != SocketCall::Waited;
+        if let SocketCall::Moved(count) = call {
             self.written = self.written.saturating_add(count);
         }
         if self.written >= self.response.len() {
@@ -219,20 +219,20 @@ impl Visitor {
     }
 
     // Writes what is left of the response.
-    fn write_rest(&self) -> Call {
+    fn write_rest(&self) -> SocketCall {
         let bytes = self.response.as_bytes();
         if self.written >= bytes.len() {
-            return Call::Ended;
+            return SocketCall::Ended;
         }
         let mut stream = &self.stream;
-        Call::of(stream.write(&bytes[self.written..]))
+        SocketCall::of(stream.write(&bytes[self.written..]))
     }
 
     // Ends the writing. Returns whether it stays.
     fn leave(&mut self, now: u64) -> bool
         ensures { self.new.until ≡ leaving_until now self.old.until }
     {
-        self.stage = Stage::Leaves;
+        self.stage = VisitStage::Leaves;
         self.until = self.until.min(now.saturating_add(LEAVE));
         self.stream.shutdown(Shutdown::Write).is_ok()
     }

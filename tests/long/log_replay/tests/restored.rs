@@ -4,7 +4,7 @@ use super::{is_sound, opened, snapshot};
 use log_replay::{draft_publication, earlier_count, replay_all, replay_first};
 use matrix_u32::Plain;
 use publication_log::{
-    Disk, DiskFailed, Log, LogHeader, PublicationBuilder, Publications, read_log, relinked,
+    AppendDisk, Log, LogDiskFailed, LogHeader, PublicationBuilder, Publications, read_log, relinked,
 };
 use snapshot_file::write_snapshot_bytes;
 use std::alloc::Global;
@@ -24,19 +24,19 @@ struct Memory {
     bytes: Vec<u8>,
 }
 
-impl Disk for Memory {
-    fn write(&mut self, bytes: &[u8]) -> Result<(), DiskFailed> {
+impl AppendDisk for Memory {
+    fn write(&mut self, bytes: &[u8]) -> Result<(), LogDiskFailed> {
         match self.bytes.extend_from_slice(bytes) {
             Ok(()) => Ok(()),
-            Err(_) => Err(DiskFailed),
+            Err(_) => Err(LogDiskFailed),
         }
     }
 
-    fn sync(&mut self) -> Result<(), DiskFailed> {
+    fn sync(&mut self) -> Result<(), LogDiskFailed> {
         Ok(())
     }
 
-    fn truncate(&mut self, len: u64) -> Result<(), DiskFailed> {
+    fn truncate(&mut self, len: u64) -> Result<(), LogDiskFailed> {
         self.bytes.truncate(len as usize);
         Ok(())
     }

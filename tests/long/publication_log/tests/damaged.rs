@@ -3,7 +3,7 @@
 
 use super::worked::example;
 use super::{FIRST_LEN, HEADER_LEN, header, part};
-use publication_log::{BadLog, LogHeader, ReadFault, read_log};
+use publication_log::{BadLog, LogHeader, LogReadFault, read_log};
 use std::alloc::Global;
 use std::test::Fail;
 
@@ -11,13 +11,13 @@ use std::test::Fail;
 const LEN: usize = 191;
 
 // How many bytes of a log are good, or what is wrong with it.
-fn good_len(alloc: Global, header: &LogHeader, bytes: &[u8]) -> Result<usize, ReadFault> {
+fn good_len(alloc: Global, header: &LogHeader, bytes: &[u8]) -> Result<usize, LogReadFault> {
     Ok(read_log(alloc, header, bytes)?.len)
 }
 
 // What is wrong with a log.
-fn bad(cause: BadLog) -> Result<usize, ReadFault> {
-    Err(ReadFault::Bad(cause))
+fn bad(cause: BadLog) -> Result<usize, LogReadFault> {
+    Err(LogReadFault::Bad(cause))
 }
 
 #[test]

@@ -5,7 +5,8 @@ ghost use Rattle.std.specs.Prelude.{◌≡◌, ◌+◌, IfOk};
 use super::worked::example;
 use super::{FIRST_LEN, HEADER_LEN, first, header};
 use publication_log::{
-    AppendFault, BadLog, CutFault, Disk, DiskFailed, Log, PublicationBuilder, ReadFault, read_log,
+    AppendDisk, AppendFault, BadLog, CutFault, Log, LogDiskFailed, LogReadFault, PublicationBuilder,
+    read_log,
 };
 use std::alloc::Global;
 use std::test::Fail;
@@ -28,16 +29,16 @@ struct MemoryDisk {
 
 impl MemoryDisk {
     // Notes a step, and fails if it is the one that does.
-    fn step(&mut self, name: Name) -> Result<(), DiskFailed> {
+    fn step(&mut self, name: Name) -> Result<(), LogDiskFailed> {
         if self.steps.push(name).is_err() || self.fails == Some(name) {
-            return Err(DiskFailed);
+            return Err(LogDiskFailed);
         }
         Ok(())
     }
 }
 
-impl Disk for MemoryDisk {
-    fn write(&mut self, bytes: &[u8]) -> Result<(), DiskFailed> {
+impl AppendDisk for MemoryDisk {
+    fn write(&mut self, bytes: &[u8]) -> Result<(), LogDiskFailed> {
         let written = self.step(Name::Write);
         // A write that fails leaves a part.
         let taken = if written.is_ok() {
@@ -47,15 +48,15 @@ impl Disk for MemoryDisk {
         };
         match self.bytes.extend_from_slice(&bytes[..taken]) {
             Ok(()) => written,
-            Err(_) => Err(DiskFailed),
+            Err(_) => Err(LogDiskFailed),
         }
     }
 
-    fn sync(&mut self) -> Result<(), DiskFailed> {
+    fn sync(&mut self) -> Result<(), LogDiskFailed> {
         self.step(Name::Sync)
     }
 
-    fn truncate(&mut self, len: u64) -> Result<(), DiskFailed> {
+    fn truncate(&mut self, len: u64) -> Result<(), LogDiskFailed> {
         self.step(Name::Truncate)?;
         self.bytes.truncate(len as usize);
         Ok(())
@@ -201,7 +202,7 @@ fn verdict_on(
     alloc: Global,
     version: u64,
     publication: &PublicationBuilder,
-) -> Result<Result<usize, ReadFault>, Fail>
+) -> Result<Result<usize, LogReadFault>, Fail>
     requires { publication.now.version ≡ version + 1 }
 {
     let mut log = empty_log(alloc, version, None)?;
@@ -222,12 +223,12 @@ fn an_entry_with_its_digest_is_still_judged(rt: HostRuntime) -> Result<(), Fail>
     }
     assert_eq!(rt;
         verdict_on(rt.alloc(), 1, &publication)?,
-        Err(ReadFault::Bad(BadLog::BadBody))
+        Err(LogReadFault::Bad(BadLog::BadBody))
     );
     let later = PublicationBuilder::new(rt.alloc(), 3)?;
     assert_eq!(rt;
         verdict_on(rt.alloc(), 2, &later)?,
-        Err(ReadFault::Bad(BadLog::BadVersion))
+        Err(LogReadFault::Bad(BadLog::BadVersion))
     );
     Ok(())
 }

@@ -2,8 +2,8 @@
 
 use super::{NEW, OLD};
 use safe_files::{
-    Bytes, FileLock, LockFault, Place, ReplaceFault, lock, open_file, remove_beside, replace,
-    replace_file, settle,
+    BytesInMemory, FileLock, LockFault, Place, ReplaceFault, lock, open_file, remove_beside,
+    replace, replace_file, settle,
 };
 use std::fs;
 use std::os::unix::fs::{PermissionsExt, symlink};
@@ -17,12 +17,12 @@ fn found(rt: &HostRuntime, name: &str) -> Result<Vec<u8>, Fail> {
 #[test]
 fn a_new_file_is_its_owners_and_an_old_one_keeps_its_mode(rt: HostRuntime) -> Result<(), Fail> {
     fs::create_dir(&rt, "modes")?;
-    assert_eq!(rt; replace_file(&rt, "modes/file", &Bytes(OLD)), Ok(()));
+    assert_eq!(rt; replace_file(&rt, "modes/file", &BytesInMemory(OLD)), Ok(()));
     assert_eq!(rt; mode_of(&rt, "modes/file")?, 0o600);
     let mut access = fs::metadata(&rt, "modes/file")?.permissions();
     access.set_mode(0o640);
     fs::set_permissions(&rt, "modes/file", access)?;
-    assert_eq!(rt; replace_file(&rt, "modes/file", &Bytes(NEW)), Ok(()));
+    assert_eq!(rt; replace_file(&rt, "modes/file", &BytesInMemory(NEW)), Ok(()));
     assert_eq!(rt; mode_of(&rt, "modes/file")?, 0o640);
     assert_eq!(rt; found(&rt, "modes/file")?.as_slice(), NEW);
     fs::remove_dir_all(&rt, "modes")?;
@@ -40,7 +40,7 @@ fn what_stands_beside_is_left_alone(rt: HostRuntime) -> Result<(), Fail> {
     fs::write(&rt, "beside/file", "old")?;
     fs::write(&rt, "beside/other", "other")?;
     symlink(&rt, "other", "beside/file.new")?;
-    assert_eq!(rt; replace_file(&rt, "beside/file", &Bytes(NEW)), Ok(()));
+    assert_eq!(rt; replace_file(&rt, "beside/file", &BytesInMemory(NEW)), Ok(()));
     assert_eq!(rt; found(&rt, "beside/file")?.as_slice(), NEW);
     assert_eq!(rt; found(&rt, "beside/other")?.as_slice(), b"other".as_slice());
     assert_eq!(rt;
@@ -48,7 +48,7 @@ fn what_stands_beside_is_left_alone(rt: HostRuntime) -> Result<(), Fail> {
         b"other".as_slice()
     );
     assert_eq!(rt;
-        replace_file(&rt, "beside/none/file", &Bytes(NEW)),
+        replace_file(&rt, "beside/none/file", &BytesInMemory(NEW)),
         Err(ReplaceFault::Make)
     );
     fs::remove_dir_all(&rt, "beside")?;
@@ -60,7 +60,7 @@ fn a_link_to_a_file_stays_and_the_file_is_replaced(rt: HostRuntime) -> Result<()
     fs::create_dir(&rt, "links")?;
     fs::write(&rt, "links/file", "old")?;
     symlink(&rt, "file", "links/link")?;
-    assert_eq!(rt; replace_file(&rt, "links/link", &Bytes(NEW)), Ok(()));
+    assert_eq!(rt; replace_file(&rt, "links/link", &BytesInMemory(NEW)), Ok(()));
     assert_eq!(rt; found(&rt, "links/file")?.as_slice(), NEW);
     assert!(rt; fs::symlink_metadata(&rt, "links/link")?.is_symlink());
     assert!(rt; Place::of(&rt, "links")?.is_no_file());
@@ -102,7 +102,7 @@ fn what_killed_processes_left_is_removed_under_the_lock(rt: HostRuntime) -> Resu
     ] {
         assert!(rt; fs::exists(&rt, name)?);
     }
-    assert_eq!(rt; replace(rt.alloc(), &mut place, &Bytes(NEW)), Ok(()));
+    assert_eq!(rt; replace(rt.alloc(), &mut place, &BytesInMemory(NEW)), Ok(()));
     assert_eq!(rt; found(&rt, "left/file")?.as_slice(), NEW);
     let file = place.open()?;
     assert_eq!(rt; settle(&mut place, &file), Ok(()));
@@ -120,7 +120,7 @@ fn a_lock_is_had_once(rt: HostRuntime) -> Result<(), Fail> {
     assert!(rt; first.is_ok());
     assert!(rt; matches!(locked(&rt, "locks/link"), Err(LockFault::Held)));
     // The lock outlives the file.
-    assert_eq!(rt; replace_file(&rt, "locks/file", &Bytes(NEW)), Ok(()));
+    assert_eq!(rt; replace_file(&rt, "locks/file", &BytesInMemory(NEW)), Ok(()));
     assert!(rt; matches!(locked(&rt, "locks/file"), Err(LockFault::Held)));
     drop(first);
     assert!(rt; locked(&rt, "locks/file").is_ok());

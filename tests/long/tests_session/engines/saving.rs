@@ -3,7 +3,7 @@
 //! `rt try --test --fail-alloc N` refuses the Nth request for memory.
 
 use connection_turns::{
-    AppendFailed, ConnectionState, Fault, Outside, PIECE_LEN, SaveFailed, Served, Stop, turn,
+    AppendFailed, ConnectionState, Fault, Outside, PIECE_LEN, SaveFailed, Served, SocketStop, turn,
 };
 use lane_kernels::Lanes;
 use server_core::ServerCore;
@@ -96,9 +96,9 @@ impl Outside<Lanes> for Device<'_> {
         Ok(())
     }
 
-    fn read(&mut self, buffer: &mut [u8]) -> Result<usize, Stop> {
+    fn read(&mut self, buffer: &mut [u8]) -> Result<usize, SocketStop> {
         if self.input.is_empty() {
-            return Err(Stop::Later);
+            return Err(SocketStop::Later);
         }
         let n = self.most.min(self.input.len()).min(buffer.len());
         let (piece, rest) = self.input.split_at(n);
@@ -107,10 +107,10 @@ impl Outside<Lanes> for Device<'_> {
         Ok(n)
     }
 
-    fn write(&mut self, _store: &Store<Lanes>, bytes: &[u8]) -> Result<usize, Stop> {
+    fn write(&mut self, _store: &Store<Lanes>, bytes: &[u8]) -> Result<usize, SocketStop> {
         match self.output.extend_from_slice(bytes) {
             Ok(()) => Ok(bytes.len()),
-            Err(_) => Err(Stop::Failed),
+            Err(_) => Err(SocketStop::Failed),
         }
     }
 }

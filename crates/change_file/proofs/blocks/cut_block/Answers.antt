@@ -1,7 +1,7 @@
 use Rattle.std.proofs.Common.{◌≡◌, ◌<◌, ◌+◌, ◌-◌, ◌++◌, ℕ, List, slice_index, length, take, drop, sym, ap, ◌∙◌, arith}
 use Rattle.std.proofs.lemmas.List.{length-append, length-drop, take_rest, take-append-drop}
 use Rattle.byteorder.specs.Endian.{little_number}
-use Rattle.change_file.specs.Files.{HintMove, body_bytes}
+use Rattle.change_file.specs.Files.{HintMove, block_body}
 use Rattle.change_file.proofs.Bodies.{body_read, entries_len, length-body}
 use Rattle.change_file.proofs.blocks.cut_block.Goals.{then-rest-len-via-then-rest-len, then-rest-len-via-else-rest-len+then-rest-len-lt-LINK_LEN}
 use Rattle.change_file.proofs.blocks.cut_block.Goals as goal
@@ -12,7 +12,7 @@ returns-then-rest-len-clause-none c = λ m link rest is count e.
     let len : c.read_u32-len.result ≡ length m.entries =
     c.read_u32-len.ensures ∙ ap (little_number 4) (take_rest bytes 20) ∙ entries_len m bytes (link ++ rest) is e in
     let long : length bytes ≡ length m.entries + 24 + (32 + length rest) =
-    omega (arith, ap length e, length-append (body_bytes m) (link ++ rest), length-append link rest, count, length-body m) in
+    omega (arith, ap length e, length-append (block_body m) (link ++ rest), length-append link rest, count, length-body m) in
     elim c.then-rest-len.branch [
       | then-rest-len-via-then-rest-len w ↦ absurd (omega (arith, w.if-rest-len, len, long))
       | then-rest-len-via-else-rest-len+then-rest-len-lt-LINK_LEN w ↦ absurd (omega (arith, w.if-rest-len, w.if-rest-len-lt-LINK_LEN, len, long))
@@ -29,7 +29,7 @@ returns-clause-some c =
       count = c.read_u32.result;
       entries = take (length body - 24) (drop 24 body);
     } in
-    let is : body ≡ body_bytes m = body_read m bytes body c.read_u32-len.result each c.split_at.ensures.front_len c.split_at.ensures.front (omega arith)
+    let is : body ≡ block_body m = body_read m bytes body c.read_u32-len.result each c.split_at.ensures.front_len c.split_at.ensures.front (omega arith)
     c.read_u64.ensures
     (c.read_u64-2.ensures ∙ ap (little_number 8) (take_rest bytes 8))
     (c.read_u32.ensures ∙ ap (little_number 4) (take_rest bytes 16))

@@ -1,4 +1,4 @@
-use Rattle.client_commands.specs.Transcripts.{edition}
+use Rattle.client_commands.specs.Transcripts.{edit_steps}
 use Rattle.client_commands.proofs.Numbers.{AreNoAsks, no_asks_spend_none}
 use Rattle.client_commands.proofs.commands.put.Goals as goal
 
@@ -6,4 +6,4 @@ pub returns-clause-number : goal.returns-clause-number
 unfolding AreNoAsks
 returns-clause-number g c =
     let t = c.edit_record.ensures.transcript in
-    no_asks_spend_none (edition c.args.key c.args.index c.args.bytes.now) _ c.edit_record.result t.0 t.1 _ _ (tt, (tt, tt)) t.4
+    no_asks_spend_none (edit_steps c.args.key c.args.index c.args.bytes.now) _ c.edit_record.result t.0 t.1 _ _ (tt, (tt, tt)) t.4

@@ -5,7 +5,7 @@ use Rattle.matrix_u32.specs.Matrix.{WordMatrix}
 use Rattle.seed_expand.specs.Words.{public_rows}
 use Rattle.digit_pack.specs.Layout.{Shape, digit_cols}
 use Rattle.hint_changes.specs.Changes.{ChangedRecord, RowOfPublic, moved}
-use Rattle.hint_changes.specs.Entries.{change_in, changes_in, entry_count, entry_len, number_in}
+use Rattle.hint_changes.specs.Entries.{change_in, changes_in, entry_count, entry_len, index_in}
 use Rattle.hint_changes.proofs.EntryLemmas.{none_made, one_more_made}
 use Rattle.hint_changes.proofs.entries.move_by_entries.Goals as goal
 
@@ -38,8 +38,8 @@ loop-k-preserved g c =
     ∙ ap (λ p. take len (drop (p + (4 + len)) bytes)) place in
     let change : record { index = c.number_in-number.result; old = old; new = new } ≡ change_in len bytes k =
     ap (λ (i : ℕ). record { index = i; old = old; new = new }) c.number_in-number.ensures
-    ∙ ap (λ (o : List ℕ). record { index = number_in len bytes k; old = o; new = new }) olds
-    ∙ ap (λ (n : List ℕ). record { index = number_in len bytes k; old = (change_in len bytes k).old; new = n }) news in
+    ∙ ap (λ (o : List ℕ). record { index = index_in len bytes k; old = o; new = new }) olds
+    ∙ ap (λ (n : List ℕ). record { index = index_in len bytes k; old = (change_in len bytes k).old; new = n }) news in
     let made : List ChangedRecord = list_of k (change_in len bytes) in
     record {
       seed = ap (λ (r : RowOfPublic). r.seed) c.move_record.ensures.public ∙ c.loop-k.invariant.seed;

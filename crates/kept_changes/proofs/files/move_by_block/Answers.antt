@@ -8,7 +8,7 @@ use Rattle.hint_changes.specs.Entries.{changes_in}
 use Rattle.pir_schemes.specs.declared.plan.Plan.{Plan}
 use Rattle.pir_schemes.specs.Plans.{shape_at}
 use Rattle.change_file.specs.Files.{move_of}
-use Rattle.kept_changes.specs.Moves.{moved_once, record_rows}
+use Rattle.kept_changes.specs.Moves.{hint_after_move, record_rows}
 use Rattle.kept_changes.proofs.Steps.{one_block}
 use Rattle.kept_changes.proofs.files.move_by_block.Goals as goal
 
@@ -21,7 +21,7 @@ returns-clause-moved g c = λ _.
     let bytes : List ℕ = c.args.block.now.entries.now in
     let is : c.in-Some.layout ≡ l = c.in-Some.ensures.1 in
     let groups : c.groups.result ≡ p.groups = c.groups.ensures.value ∙ ap (λ (x : Shape). x.groups) is in
-    let rows : record_rows p i c.move_place.new.hint ≡ record_rows p i (moved_once p (move_of c.args.block.now) before) =
+    let rows : record_rows p i c.move_place.new.hint ≡ record_rows p i (hint_after_move p (move_of c.args.block.now) before) =
     sym (ap (λ (x : Shape). rows_in_place x (i % p.groups) c.move_place.new.hint) is)
     ∙ sym (ap (λ (n : ℕ). rows_in_place c.in-Some.layout (i % n) c.move_place.new.hint) groups)
     ∙ c.move_place.ensures.moved

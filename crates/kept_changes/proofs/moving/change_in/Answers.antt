@@ -1,6 +1,6 @@
 use Rattle.std.proofs.Common.{arith, ap, ◌∙◌, ◌≡◌, ℕ, ◌+◌, ◌-◌, ◌*◌, List, take, drop}
 use Rattle.std.proofs.lemmas.Nat.{mul-add-lt}
-use Rattle.hint_changes.specs.Entries.{change_in, entry_count, entry_len, number_in}
+use Rattle.hint_changes.specs.Entries.{change_in, entry_count, entry_len, index_in}
 use Rattle.kept_changes.proofs.moving.change_in.Goals as goal
 
 pub slice_bounds-result-end-2 : goal.slice_bounds-result-end-2
@@ -26,5 +26,5 @@ returns c =
     ap (λ n. take n (drop (at + (4 + len)) bytes)) cut_new
     ∙ ap (λ p. take len (drop (p + (4 + len)) bytes)) place in
     ap (λ (i : ℕ). record { index = i; old = old; new = new }) c.number_in.ensures
-    ∙ ap (λ (o : List ℕ). record { index = number_in len bytes k; old = o; new = new }) olds
-    ∙ ap (λ (n : List ℕ). record { index = number_in len bytes k; old = (change_in len bytes k).old; new = n }) news
+    ∙ ap (λ (o : List ℕ). record { index = index_in len bytes k; old = o; new = new }) olds
+    ∙ ap (λ (n : List ℕ). record { index = index_in len bytes k; old = (change_in len bytes k).old; new = n }) news

@@ -7,7 +7,7 @@ use Rattle.hint_changes.specs.Entries.{changes_in}
 use Rattle.pir_schemes.specs.declared.plan.Plan.{Plan}
 use Rattle.pir_schemes.specs.Plans.{shape_at}
 use Rattle.change_file.specs.Files.{move_of}
-use Rattle.kept_changes.specs.Moves.{moved_once}
+use Rattle.kept_changes.specs.Moves.{hint_after_move}
 use Rattle.kept_changes.proofs.whole_hint.move_whole.Goals as goal
 
 pub returns-clause-moved : goal.returns-clause-moved
@@ -16,7 +16,7 @@ returns-clause-moved g c = λ _.
     let l : Shape = shape_at p c.args.block.now.count in
     let before : WordMatrix = c.args.hint.now.matrix in
     let bytes : List ℕ = c.args.block.now.entries.now in
-    let matrix : c.move_by_entries.new.hint ≡ moved_once p (move_of c.args.block.now) before =
+    let matrix : c.move_by_entries.new.hint ≡ hint_after_move p (move_of c.args.block.now) before =
     c.move_by_entries.ensures.hint
     ∙ ap (λ (x : Shape). moved x (public_rows c.args.public.now.seed 0 0 (digit_cols x) c.args.public.now.dimension)
     (changes_in x.record_len bytes) before) c.in-Some.ensures.1

@@ -2,7 +2,7 @@ use Rattle.std.proofs.Common.{◌∙◌, sym, ap, ℕ, List}
 use Rattle.publication_log.specs.Publications.{Placed}
 use Rattle.snapshot_file.specs.declared.snapshot.Header.{Header}
 use Rattle.version_store.specs.Openings.{plan_held, records_for}
-use Rattle.log_replay.specs.Replays.{records_after}
+use Rattle.log_replay.specs.Replays.{records_replayed}
 use Rattle.log_replay.proofs.ChangeLemmas.{splits, none_left}
 use Rattle.log_replay.proofs.RecordLemmas.{changed_to, still_counted}
 use Rattle.log_replay.proofs.records.put_changes.Goals as goal
@@ -24,8 +24,8 @@ changes-preserved g c =
             split.others,
             split.others_are,
             it.2
-                ∙ ap (λ (x : List Placed). records_after records x) split.all
-                ∙ ap (λ (rs : List (List ℕ)). records_after rs split.others) (sym changed.held),
+                ∙ ap (λ (x : List Placed). records_replayed records x) split.all
+                ∙ ap (λ (rs : List (List ℕ)). records_replayed rs split.others) (sym changed.held),
           );
     }
 
@@ -34,4 +34,4 @@ returns-clause-put g c = λ low cs each e.
     let it = c.changes.invariant.put low cs each e in
     let none = none_left c.changes.left.rest.now it.0 it.1 c.in_default.ensures.some in
     changed_to _ (g.H.RecordHolder.header c.changes.held) _ (g.H.RecordHolder.bytes c.changes.held) cs c.changes.invariant.header
-    (sym (it.2 ∙ ap (λ (x : List Placed). records_after (records_for (g.H.RecordHolder.header c.changes.held) (g.H.RecordHolder.bytes c.changes.held)) x) none))
+    (sym (it.2 ∙ ap (λ (x : List Placed). records_replayed (records_for (g.H.RecordHolder.header c.changes.held) (g.H.RecordHolder.bytes c.changes.held)) x) none))

@@ -8,7 +8,7 @@ use Rattle.frame_codec.specs.Streams.{Feeds}
 use Rattle.frame_codec.proofs.Feedings.{some_begin}
 use Rattle.once_session.specs.declared.stage.Stage.{Stage}
 use Rattle.once_session.specs.Courses.{replies_to, stage_after, encodings}
-use Rattle.once_session.specs.Outputs.{goes_on}
+use Rattle.once_session.specs.Outputs.{takes_frames}
 use Rattle.once_session.proofs.TurnLemmas.{turn_over, turn_on, turn_refused, frames_failed, stop_failed}
 use Rattle.once_session.proofs.engine.serve_read.Goals as goal
 
@@ -18,7 +18,7 @@ returns-in-Ok-stop-clause-turned g c rest piece codec e =
     let fs : List Frame = c.args.frames.now in
     let fed : Feeds false (Some rest) piece (Err c.in-Err-read.fault) fs codec =
     subst (λ (r : Result (Unit {0}) ReadFault). Feeds false (Some rest) piece r fs codec) c.in-Err-read.is e in
-    let going : goes_on (stage_after old fs) ≡ true = ap goes_on (sym c.in_default.ensures.stage.0) ∙ sym c.goes_on.ensures ∙ c.if-not-goes_on.false in
+    let going : takes_frames (stage_after old fs) ≡ true = ap takes_frames (sym c.in_default.ensures.stage.0) ∙ sym c.goes_on.ensures ∙ c.if-not-goes_on.false in
     let out : List ℕ = encodings (replies_to old fs) ++ encoding (Refused 1) in (
       out,
       sends_both g.C.Connection.does c.args.connection.now c.answer_frames.new.connection c.stop.new.connection _ _ c.in_default.ensures.all
@@ -33,7 +33,7 @@ returns-in-Err-stop-clause-turned g c rest piece codec e =
     let fs : List Frame = c.args.frames.now in
     let fed : Feeds false (Some rest) piece (Err c.in-Err-read.fault) fs codec =
     subst (λ (r : Result (Unit {0}) ReadFault). Feeds false (Some rest) piece r fs codec) c.in-Err-read.is e in
-    let going : goes_on (stage_after old fs) ≡ true = ap goes_on (sym c.in_default.ensures.stage.0) ∙ sym c.goes_on.ensures ∙ c.if-not-goes_on.false in
+    let going : takes_frames (stage_after old fs) ≡ true = ap takes_frames (sym c.in_default.ensures.stage.0) ∙ sym c.goes_on.ensures ∙ c.if-not-goes_on.false in
     stop_failed g.C.Connection.does c.in-Err-stop.broken old (rest ++ piece) fs fed.0.0 c.in-Err-read.fault c.stop.new.stage codec c.args.connection.now
     c.answer_frames.new.connection c.stop.new.connection c.in-Err-stop.ensures.fault fed.0.1 fed.0.2 going c.in_default.ensures.all
     c.in-Err-stop.ensures.prefix c.in-Err-stop.ensures.judged c.in-Err-stop.ensures.memory

@@ -3,7 +3,7 @@ use Rattle.std.proofs.lemmas.List.{length-append}
 use Rattle.connection_io.specs.Calls.{Read}
 use Rattle.connection_io.specs.Turns.{CallTurn}
 use Rattle.connection_io.proofs.Parts.{reads_piece}
-use Rattle.once_session.specs.Outputs.{Turns, goes_on}
+use Rattle.once_session.specs.Outputs.{Turns, takes_frames}
 use Rattle.once_session.proofs.RunLemmas.{turned_on}
 use Rattle.once_session.proofs.OverLemmas.{one_more, end_found, piece_failed, piece_ended}
 use Rattle.once_session.proofs.session.once_over.Goals as goal
@@ -127,7 +127,7 @@ turns-preserved g c =
     (sym c.deref-in-turns-2.ensures.value) c.in-Ok-receive.ensures.did in
     let within = subst (λ (x : List ℕ). c.in-Ok-receive.n ≤ length x) (sym c.deref-in-turns-2.ensures.value) c.in-Ok-receive.ensures.within in
     let piece : List ℕ = take c.in-Ok-receive.n buffer in
-    let going : goes_on c.serve_chunk.new.stage ≡ true = sym c.goes_on.ensures ∙ c.if-not-goes_on.false in
+    let going : takes_frames c.serve_chunk.new.stage ≡ true = sym c.goes_on.ensures ∙ c.if-not-goes_on.false in
     let w = turned_on c.turns.stage c.serve_chunk.new.stage (i.unfinished ++ piece) t.0 c.serve_chunk.new.codec going t.2 in
     let turn : CallTurn = record { piece = piece; output = t.0 } in
     record {

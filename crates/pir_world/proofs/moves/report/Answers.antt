@@ -3,7 +3,7 @@ use Rattle.std.specs.Prelude.{slice_get, slice_set}
 use Rattle.std.proofs.lemmas.Option.{slice_get_read}
 use Rattle.pir_world.specs.declared.steps.Outcome.{Outcome}
 use Rattle.pir_world.specs.declared.steps.Outcome.TheVariants.{Reported}
-use Rattle.pir_world.specs.Runs.{State, reported_at}
+use Rattle.pir_world.specs.Runs.{State, received_at}
 use Rattle.pir_world.specs.Sides.{Implements}
 use Rattle.pir_world.proofs.Parts.{parts_reported}
 use Rattle.pir_world.proofs.Receipts.{receipt_at}
@@ -21,7 +21,7 @@ returns-in-None-clause-made g c = on_map c.put_events.result _ _ (λ items core 
     c.args.most c.in-Ok.taken.out.items c.in-Ok.taken.events.items c.in-Ok.taken.fault inv c.in-Ok.ensures) [
       | inl m ↦ absurd (none_some (sym c.in-None.is ∙ m))
       | inr t ↦ subst (λ (os : List Outcome). Implements x core (slice_set e c.args.k c.deliver_down.new.self) os
-          (reported_at s c.args.k c.args.most (slice_get s.links c.args.k))) (sym items)
+          (received_at s c.args.k c.args.most (slice_get s.links c.args.k))) (sym items)
           (subst (λ (u : State). Implements x core (slice_set e c.args.k c.deliver_down.new.self) (c.args.outcomes.now.items ++ map (Reported c.args.k) c.in-Ok.taken.events.items) u)
           (sym (receipt_at s c.args.k c.args.most (slice_get s.links c.args.k))) t.1)
     ]) c.put_events.ensures.items

@@ -1,6 +1,6 @@
 use Rattle.std.proofs.Common.{◌≡◌, ◌≤◌, ◌<◌, ◌+◌, ◌-◌, ◌^◌, ◌++◌, ◌∷◌, [], ℕ, List, length, take, drop, Some, None, Option, refl, sym, ap, subst, ◌∙◌, rules, arith, true, false, Bool}
 use Rattle.std.proofs.lemmas.List.{length-drop}
-use Rattle.publication_log.specs.Entries.{head_len}
+use Rattle.publication_log.specs.Entries.{body_len_in}
 use Rattle.publication_log.proofs.Numbers.{tail_is}
 use Rattle.publication_log.proofs.Heads.{frame_head}
 use Rattle.publication_log.proofs.Frames.{frame_len, frame_joined}
@@ -8,7 +8,7 @@ use Rattle.publication_log.proofs.entries.frame_at.Goals as goal
 
 pub returns-in_err-len-clause-none : goal.returns-in_err-len-clause-none
 returns-in_err-len-clause-none c = rw c.from_residual.ensures (λ body digest rest is count e.
-    let none : None ≡ Some (length body) = c.in_err-len.ensures.value ∙ ap head_len e ∙ frame_head body (digest ++ rest) is in
+    let none : None ≡ Some (length body) = c.in_err-len.ensures.value ∙ ap body_len_in e ∙ frame_head body (digest ++ rest) is in
     absurd (cc))
 
 pub returns-then-rest-len-clause-none : goal.returns-then-rest-len-clause-none

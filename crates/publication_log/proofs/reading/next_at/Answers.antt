@@ -1,6 +1,6 @@
 use Rattle.std.proofs.Common.{◌≡◌, ◌≤◌, ◌<◌, ◌+◌, ◌-◌, ◌^◌, ◌++◌, ◌∷◌, [], ℕ, List, length, take, drop, Some, None, Option, Ok, Err, Result, refl, sym, ap, subst, ◌∙◌, append_assoc, rules, arith, true, false, Bool}
 use Rattle.publication_log.specs.Publications.{Published, IsPublished, body_bytes}
-use Rattle.publication_log.specs.Entries.{entry, next_link}
+use Rattle.publication_log.specs.Entries.{log_entry, next_link}
 use Rattle.publication_log.proofs.Placings.{fault_is_none}
 use Rattle.publication_log.proofs.Readings.{published}
 use Rattle.publication_log.proofs.reading.next_at.Goals as goal
@@ -18,7 +18,7 @@ returns-then-not-is_next-clause-bad c =
       p,
       c.in-Some.frame.rest.now,
       published c.in-Some.frame.body.now p it.0 found.1 found.2 found.4,
-      it.2 ∙ ap (λ (x : List ℕ). entry c.args.link.now x ++ c.in-Some.frame.rest.now) found.4,
+      it.2 ∙ ap (λ (x : List ℕ). log_entry c.args.link.now x ++ c.in-Some.frame.rest.now) found.4,
       λ e. let yes : c.is_next.result ≡ true = c.is_next.ensures.1 e in absurd (let no = c.if-not-is_next.true in cc),
     )
 
@@ -35,6 +35,6 @@ returns-clause-some c =
         version = follows;
         link = it.1 ∙ ap (next_link c.args.link.now) found.4;
         count = c.in-Some.ensures.count;
-        whole = it.2 ∙ ap (λ (x : List ℕ). entry c.args.link.now x ++ c.in-Some.frame.rest.now) found.4;
+        whole = it.2 ∙ ap (λ (x : List ℕ). log_entry c.args.link.now x ++ c.in-Some.frame.rest.now) found.4;
       },
     )

@@ -2,7 +2,7 @@ use Rattle.std.proofs.Common.{◌≡◌, ◌≤◌, ◌<◌, ◌+◌, ◌-◌, �
 use Rattle.std.proofs.lemmas.Result.{err_from_is_err_and}
 use Rattle.sha2.specs.Sha256.{sha256}
 use Rattle.publication_log.specs.Entries.{chain_bytes, last_link}
-use Rattle.publication_log.specs.Logs.{header_bytes, first_link, bodies_of, AreRead, HasCause, StopsBy}
+use Rattle.publication_log.specs.Logs.{log_header_bytes, first_link, bodies_of, AreRead, HasCause, StopsBy}
 use Rattle.publication_log.proofs.Readings.{cause_is, found_is}
 use Rattle.publication_log.specs.declared.reading.BadLog.{BadLog}
 use Rattle.publication_log.proofs.reading.read_log.Goals as goal
@@ -14,7 +14,7 @@ returns-in_err-ends-clause-bad c = λ cause e.
     let same : why ≡ cause = cc (e, p.1, p.2) in
     let bad = c.in_err-ends.ensures.bad in
     let header = c.args.header.now in
-    let prefix : c.deref.result.now ≡ header_bytes header = c.deref.ensures.value ∙ c.in_ok-prefix.ensures in
+    let prefix : c.deref.result.now ≡ log_header_bytes header = c.deref.ensures.value ∙ c.in_ok-prefix.ensures in
     let link : c.link_of.result ≡ first_link header = c.link_of.ensures ∙ ap sha256 (c.deref-2.ensures.value ∙ c.in_ok-prefix.ensures) in
     let whole = c.in-Some.ensures.some ∙ ap (λ (x : List ℕ). x ++ c.in-Some.rest.now) prefix in
     subst (λ (x : BadLog). HasCause header x c.args.bytes.now) same
@@ -25,7 +25,7 @@ returns-in_err-ends-clause-bad c = λ cause e.
 pub returns-clause-found : goal.returns-clause-found
 returns-clause-found c =
     let header = c.args.header.now in
-    let prefix : c.deref.result.now ≡ header_bytes header = c.deref.ensures.value ∙ c.in_ok-prefix.ensures in
+    let prefix : c.deref.result.now ≡ log_header_bytes header = c.deref.ensures.value ∙ c.in_ok-prefix.ensures in
     let link : c.link_of.result ≡ first_link header = c.link_of.ensures ∙ ap sha256 (c.deref-2.ensures.value ∙ c.in_ok-prefix.ensures) in
     let whole = c.in-Some.ensures.some ∙ ap (λ (x : List ℕ). x ++ c.in-Some.rest.now) prefix in
     let read = c.in_ok-ends.ensures.ok in (

@@ -1,7 +1,7 @@
 use Rattle.std.proofs.Common.{◌∷◌, ◌++◌, [], ℕ, List, sym, ap, ◌∙◌}
 use Rattle.publication_log.specs.Publications.{Published, body_bytes}
 use Rattle.publication_log.specs.Entries.{next_link}
-use Rattle.publication_log.specs.Logs.{header_bytes, first_link, log_bytes}
+use Rattle.publication_log.specs.Logs.{log_header_bytes, first_link, log_bytes}
 use Rattle.publication_log.proofs.Chains.{last_push}
 use Rattle.publication_log.proofs.Onward.{reads_one, none_left, all_read, linked_on}
 use Rattle.publication_log.proofs.relinking.relinked.Goals as goal
@@ -16,7 +16,7 @@ entries-preserved c = λ link version ps each e.
       it.0 ++ one.first ∷ [],
       one.others,
       one.more,
-      linked_on (header_bytes h) c.entries.bytes.items c.push_entry.new.bytes.items f.body.now (first_link h) c.entries.link it.0 one.first it.3 it.4
+      linked_on (log_header_bytes h) c.entries.bytes.items c.push_entry.new.bytes.items f.body.now (first_link h) c.entries.link it.0 one.first it.3 it.4
           c.in_ok-link.ensures.added one.body_is,
       c.in_ok-link.ensures.link
           ∙ ap (λ (x : List ℕ). next_link c.entries.link x) one.body_is

@@ -2,7 +2,7 @@ use Rattle.std.proofs.Common.{◌≡◌, ◌∙◌, sym, ap, ℕ, List, [], ◌�
 use Rattle.std.specs.declared.vec.Vec.{Vec}
 use Rattle.std.specs.declared.alloc.Global.{Global}
 use Rattle.publication_log.specs.Publications.{Placed}
-use Rattle.publisher_drafts.specs.Merging.{changes_in}
+use Rattle.publisher_drafts.specs.Merging.{changes_of_map}
 use Rattle.publisher_drafts.proofs.Maps.{placed}
 use Rattle.publisher_drafts.proofs.changes.publication_of.Goals as goal
 
@@ -20,9 +20,9 @@ loop-place-preserved c =
       (
         done ++ first ∷ [],
         c.in_ok-push.ensures.added (record { version = c.args.version; changes = done }) it.1.1,
-        append_assoc done (first ∷ []) (changes_in left)
-            ∙ ap (λ (b : List ℕ). done ++ (placed k b ∷ changes_in left)) bytes
-            ∙ ap (λ (es : List (ℕ × Vec ℕ Global)). done ++ changes_in es) (sym steps)
+        append_assoc done (first ∷ []) (changes_of_map left)
+            ∙ ap (λ (b : List ℕ). done ++ (placed k b ∷ changes_of_map left)) bytes
+            ∙ ap (λ (es : List (ℕ × Vec ℕ Global)). done ++ changes_of_map es) (sym steps)
             ∙ it.1.2,
       ),
     )

@@ -3,7 +3,8 @@ use Rattle.std.specs.Prelude.{if◌then◌else◌}
 use Rattle.publication_log.specs.Publications.{Published}
 use Rattle.log_replay.specs.Replays.{are_changes_of}
 use Rattle.log_replay.proofs.ReplayLemmas.{splits_entries, no_entry_left}
-use Rattle.publisher_drafts.specs.Merging.{are_entries_of, count_after_all, count_after_entries}
+use Rattle.log_replay.specs.Replays.{count_after_all}
+use Rattle.publisher_drafts.specs.Merging.{are_entries_of, count_after_entries}
 use Rattle.publisher_drafts.proofs.Verdicts.{some_from, none_from, first_entry_made, first_entry_refused}
 use Rattle.publisher_drafts.proofs.entries.judge_entries.Goals as goal
 

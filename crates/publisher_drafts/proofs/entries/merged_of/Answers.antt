@@ -1,6 +1,6 @@
 use Rattle.std.proofs.Common.{◌∙◌, sym, ap, List, ◌∷◌}
 use Rattle.publication_log.specs.Publications.{Placed, Published}
-use Rattle.publisher_drafts.specs.Merging.{changes_in, merged_all}
+use Rattle.publisher_drafts.specs.Merging.{changes_of_map, merged_all}
 use Rattle.log_replay.proofs.ReplayLemmas.{splits_entries, no_entry_left}
 use Rattle.publisher_drafts.proofs.entries.merged_of.Goals as goal
 
@@ -12,7 +12,7 @@ entries-preserved c = λ link version ps each e.
       split.others,
       split.others_are,
       it.2
-          ∙ ap (λ (x : List Published). merged_all (changes_in c.entries.changes.entries) x) split.all
+          ∙ ap (λ (x : List Published). merged_all (changes_of_map c.entries.changes.entries) x) split.all
           ∙ ap (λ (x : List Placed). merged_all x split.others)
           (sym (c.in_ok-put_entry.ensures 0 split.first.changes split.first_is.each.changes split.first_is.changes)),
     )
@@ -21,4 +21,4 @@ pub returns : goal.returns
 returns c = λ link version ps each e.
     let it = c.entries.invariant link version ps each e in
     let none = no_entry_left c.entries.left.rest.now it.0 it.1 c.in_default.ensures.some in
-    sym (it.2 ∙ ap (λ (x : List Published). merged_all (changes_in c.entries.changes.entries) x) none)
+    sym (it.2 ∙ ap (λ (x : List Published). merged_all (changes_of_map c.entries.changes.entries) x) none)

@@ -2,7 +2,7 @@ use Rattle.std.proofs.Common.{◌≡◌, ◌∙◌, sym, ap, ℕ, List, true, fa
 use Rattle.std.specs.Prelude.{if◌then◌else◌, ◌&&◌}
 use Rattle.publication_log.specs.Publications.{Placed}
 use Rattle.log_replay.specs.Replays.{are_changes_of, count_after}
-use Rattle.publisher_drafts.specs.Merging.{count_after_all}
+use Rattle.log_replay.specs.Replays.{count_after_all}
 use Rattle.log_replay.proofs.ChangeLemmas.{splits, none_left, first_made, first_refused}
 use Rattle.publisher_drafts.proofs.Maps.{placed}
 use Rattle.publisher_drafts.proofs.judging.judge_entry.Goals as goal

@@ -1,7 +1,7 @@
 use Rattle.std.proofs.Common.{◌≡◌, ℕ, List, length}
 use Rattle.publication_log.specs.Publications.{Placed, changes_bytes, AreChanges}
 use Rattle.log_replay.specs.Replays.{are_changes_of}
-use Rattle.publisher_drafts.specs.Merging.{count_after_all}
+use Rattle.log_replay.specs.Replays.{count_after_all}
 use Rattle.log_replay.proofs.ChangeLemmas.{HasChanges}
 use Rattle.publisher_drafts.proofs.judging.judge_entry.Given as goal
 

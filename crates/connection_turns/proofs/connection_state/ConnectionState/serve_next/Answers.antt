@@ -2,7 +2,7 @@ use Rattle.std.proofs.Common.{◌∙◌, ◌-◌, List, length, ap, ℕ}
 use Rattle.std.specs.Prelude.{cond}
 use Rattle.server_core.specs.Serving.{setting_of}
 use Rattle.connection_turns.specs.Links.{ConnectionSeen, is_progress}
-use Rattle.connection_turns.specs.declared.connection_state.Progress.{Progress}
+use Rattle.connection_turns.specs.declared.connection_state.LastProgress.{LastProgress}
 use Rattle.connection_turns.proofs.Steps.{serves_next, stops_given, Saw}
 use Rattle.connection_turns.proofs.connection_state.ConnectionState.serve_next.Goals as goal
 
@@ -25,7 +25,7 @@ returns-in-Ok-clause-served g c h stands s is =
       replied_is = c.saturating_sub-replied.ensures ∙ ap (λ (n : ℕ). n - c.len-owed.result) (c.len.ensures ∙ ap length c.put_back.ensures)
           ∙ ap (λ (n : ℕ). length owed - n) c.len-owed.ensures;
       last_is = c.progress_after-self-inside.ensures
-          ∙ ap (λ (n : ℕ). let p : Progress = cond (is_progress c.self.inside.last.awaited c.saturating_sub-replied.result c.is_open-self-inside.result)
+          ∙ ap (λ (n : ℕ). let p : LastProgress = cond (is_progress c.self.inside.last.awaited c.saturating_sub-replied.result c.is_open-self-inside.result)
           (record { moment = c.args.now; awaited = n }) c.self.inside.last in p) (c.len-awaited.ensures ∙ ap length c.put_back.ensures);
     } in
     rw (← c.self.view_is, c.skip.ensures, c.put_back.ensures) (serves_next (setting_of c.args.core.now.store) h s c.args.id c.args.now old c.feed_frame.new.self

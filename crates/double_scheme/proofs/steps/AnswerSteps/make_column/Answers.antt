@@ -6,7 +6,7 @@ use Rattle.digit_pack.specs.Layout.{Shape}
 use Rattle.double_scheme.specs.Double.{one_column}
 use Rattle.double_scheme.specs.Steps.{IsMadeUntil}
 use Rattle.double_scheme.specs.declared.steps.AnswerSteps.{AnswerSteps}
-use Rattle.double_scheme.specs.declared.steps.Stage.{Stage}
+use Rattle.double_scheme.specs.declared.steps.AnswerStage.{AnswerStage}
 use Rattle.double_scheme.proofs.StepLemmas.{column_begun}
 use Rattle.double_scheme.proofs.steps.AnswerSteps.make_column.Goals as goal
 
@@ -28,7 +28,7 @@ returns-clause-so_far g c h =
     omega (arith, c.if-now_made-rows.false, c.rows.ensures.value, c.requires.rows, c.put_column_rows-now_made.ensures.within) in
     record {
       room = c.make_first.ensures.room;
-      made = subst (λ (stage : Stage). IsMadeUntil l d h a2 query t stage) (sym c.make_first.ensures.stage)
+      made = subst (λ (stage : AnswerStage). IsMadeUntil l d h a2 query t stage) (sym c.make_first.ensures.stage)
           (column_begun l d h a2 query column t c.put_column_rows-now_made.result c.requires.query c.requires.cols room c.put_column_rows-now_made.ensures.so_far all
           c.make_first.ensures.room first c.make_first.ensures.hint);
     }

@@ -2,7 +2,7 @@ use Rattle.std.proofs.Common.{◌≡◌, ◌<◌, ◌+◌, None, Some, Result, O
 use Rattle.std.specs.Result.{is_err}
 use Rattle.server_core.specs.Cores.{session_of}
 use Rattle.connection_table.specs.Holding.{held_by}
-use Rattle.connection_table.specs.declared.connection.Connection.{Connection}
+use Rattle.connection_table.specs.declared.connection.ServedConnection.{ServedConnection}
 use Rattle.server_core.specs.Sessions.{new_session}
 use Rattle.mio_server.specs.declared.serving.schedule.Schedule.{Schedule}
 use Rattle.mio_server.specs.Sessions.{AreNoted, PutsOrEvicts}
@@ -20,7 +20,7 @@ returns-clause-noted g c =
     let before = c.args.self.now.places.connections.items in
     let mid = c.open_session.new.self.core in
     let next = c.args.self.now.next_id in
-    let made : Connection = record {
+    let made : ServedConnection = record {
       stream = c.register-registered.new.source;
       address = c.args.address;
       peer = c.octets_of-peer.result;
@@ -33,7 +33,7 @@ returns-clause-noted g c =
       queued = true;
       watch = c.opened-connection.result.watch;
     } in
-    let settles = subst (λ (k : Connection). PutsOrEvicts c.args.place k before mid
+    let settles = subst (λ (k : ServedConnection). PutsOrEvicts c.args.place k before mid
     c.put_or_evict.new.self.places.connections.items c.put_or_evict.new.server.core) c.opened-connection.ensures c.put_or_evict.ensures.settles in
     let on = opened_noted before c.args.server.now.core mid next c.requires.noted does.3 in
     let low : next < next + 1 = omega arith in
@@ -53,6 +53,6 @@ returns-clause-comes g c =
     let made = c.opened-connection.result in
     let after = c.put_or_evict.new.self.places.connections.items in
     settled_comes c.args.place made c.args.self.now.places.connections.items mid after c.put_or_evict.new.server.core c.put_or_evict.new.self.schedule.visits_all
-    c.put_or_evict.new.self.schedule.ready.items c.requires.within (ap (λ (k : Connection). k.queued) c.opened-connection.ensures)
+    c.put_or_evict.new.self.schedule.ready.items c.requires.within (ap (λ (k : ServedConnection). k.queued) c.opened-connection.ensures)
     (turn_moved c.push_ready.new.self.visits_all c.put_or_evict.new.self.schedule.visits_all c.push_ready.new.self.ready.items c.put_or_evict.new.self.schedule.ready.items c.args.place
     (ap (λ (s : Schedule). s.visits_all) c.put_or_evict.ensures.schedule) (ap (λ (s : Schedule). s.ready.items) c.put_or_evict.ensures.schedule) c.push_ready.ensures.noted) c.put_or_evict.ensures.settles

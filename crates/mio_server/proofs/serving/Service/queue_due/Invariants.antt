@@ -1,5 +1,5 @@
 use Rattle.std.proofs.Common.{◌≡◌, ◌≤◌, ◌<◌, ℕ, Some, true}
-use Rattle.connection_table.specs.declared.connection.Connection.{Connection}
+use Rattle.connection_table.specs.declared.connection.ServedConnection.{ServedConnection}
 use Rattle.connection_table.specs.Judging.{due_of}
 use Rattle.connection_table.specs.Places.{connection_at}
 use Rattle.mio_server.specs.Turns.{HasTurnIfMarked, OnlyFlagsChange}
@@ -13,5 +13,5 @@ invariant-loop-place l = record {
   number : l.self.next_id ≡ l.fn.self.next_id;
   limits : l.self.limits ≡ l.fn.self.limits;
   scanned : l.self.schedule.scanned ≡ l.fn.self.schedule.scanned;
-  due : (i : ℕ) (c : Connection) → i < l.place → connection_at l.self.places.connections.items i ≡ Some c → due_of l.self.limits.idle c ≤ l.now → c.queued ≡ true;
+  due : (i : ℕ) (c : ServedConnection) → i < l.place → connection_at l.self.places.connections.items i ≡ Some c → due_of l.self.limits.idle c ≤ l.now → c.queued ≡ true;
 }

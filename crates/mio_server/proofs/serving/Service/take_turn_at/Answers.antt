@@ -1,5 +1,5 @@
 use Rattle.std.proofs.Common.{◌≡◌, ◌≤◌, List, Option, None, Some, IfSome, false, sym, subst, ◌∙◌}
-use Rattle.connection_table.specs.declared.connection.Connection.{Connection}
+use Rattle.connection_table.specs.declared.connection.ServedConnection.{ServedConnection}
 use Rattle.mio_server.specs.Turns.{HasBeenIdle}
 use Rattle.mio_server.specs.declared.serving.Service.{Service}
 use Rattle.connection_table.specs.Places.{all_held, connection_at}
@@ -15,11 +15,11 @@ is_bounded : (s : Service) → all_held s.places.connections.items ≤ s.limits.
 is_bounded s = subst (λ n. n ≤ s.limits.memory) s.places.is_sum (subst (λ n. s.places.held ≤ n) s.limited s.places.within)
 
 -- what is there is not none
-is_there : (o : Option Connection) (k : Connection) → Some k ≡ o → o ≡ None → ⊥
+is_there : (o : Option ServedConnection) (k : ServedConnection) → Some k ≡ o → o ≡ None → ⊥
 is_there o k there none = let no : Some k ≡ None = there ∙ none in cc
 
 pub returns-in_default-clause-noted : goal.returns-in_default-clause-noted
-returns-in_default-clause-noted g c = subst (λ (k : List (Option Connection)). AreNoted k c.args.server.core c.args.self.now.next_id) (sym c.in_default.ensures.places)
+returns-in_default-clause-noted g c = subst (λ (k : List (Option ServedConnection)). AreNoted k c.args.server.core c.args.self.now.next_id) (sym c.in_default.ensures.places)
     (freed_noted c.args.self.now.places.connections.items c.args.place c.args.server.core c.args.self.now.next_id c.requires.noted)
 
 pub returns-clause-noted : goal.returns-clause-noted
@@ -41,7 +41,7 @@ returns-clause-others g c =
 
 pub returns-clause-sessions : goal.returns-clause-sessions
 returns-clause-sessions g c =
-    subst (λ (o : Option Connection). IfSome o (λ k. SessionsStayOrGo k.id c.args.server.core c.finish_turn-more.new.server.core)) c.in-Some.ensures.taken
+    subst (λ (o : Option ServedConnection). IfSome o (λ k. SessionsStayOrGo k.id c.args.server.core c.finish_turn-more.new.server.core)) c.in-Some.ensures.taken
     (concluded_sessions c.end_turn-outcome.result c.args.place c.in-Some.connection c.end_turn-outcome.new.self c.args.self.now.places.connections.items
     c.take.new.self.connections.items c.args.server.core c.in-Ok-taken.both.0.core c.finish_turn-more.new.self.places.connections.items
     c.finish_turn-more.new.server.core c.in-Some.ensures.places c.finish_turn-more.ensures.goes_on c.finish_turn-more.ensures.over

@@ -10,13 +10,13 @@ use Rattle.std.specs.declared.option.Option.{Option}
 use Rattle.std.specs.declared.option.Option.TheVariants.{None, Some}
 use Rattle.std.proofs.Crossing.{frees}
 use Rattle.std.proofs.alloc.Global.TheSendSync as heap
-use Rattle.vulandrai_c.specs.ClientHandles.{owned_at}
+use Rattle.vulandrai_c.specs.ClientHandles.{client_owned_at}
 use Rattle.foreign_sessions.specs.declared.client.ClientSession.{ClientSession}
 use Rattle.foreign_sessions.specs.contracts.client.ClientSession as session
 use Rattle.foreign_sessions.proofs.client.ClientSession.TheSendSync.{the_send}
 use Rattle.vulandrai_c.specs.contracts.client_handle.ClientPointer.{the_row, the_type}
 
-owned_keyless : (a : Global) (p : Ptr) (c : Option ClientSession) → Keyless (owned_at a p c)
+owned_keyless : (a : Global) (p : Ptr) (c : Option ClientSession) → Keyless (client_owned_at a p c)
 owned_keyless a p None = tt
 owned_keyless a null_ptr (Some c) = (tt, frees.frees a (raw (lone (session.the_row).mir)) null_ptr)
 owned_keyless a (block_ptr b o) (Some c) = (part_keyless session.the_row the_send full_share c b o, frees.frees a (raw (lone (session.the_row).mir)) (block_ptr b o))

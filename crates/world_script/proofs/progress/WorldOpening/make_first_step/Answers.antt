@@ -6,7 +6,7 @@ use Rattle.world_script.specs.Scripts.{RunningWorld, LeadsFilled, MakesStep, ope
 use Rattle.world_script.specs.Progress.{IsOpened, running_world, filling_of}
 use Rattle.world_script.proofs.Moves.{MovesTo-map}
 use Rattle.world_script.proofs.Stepping.{StopsAt-from_opening, opening_of, opened_is}
-use Rattle.world_script.proofs.progress.Opening.make_first_step.Goals as goal
+use Rattle.world_script.proofs.progress.WorldOpening.make_first_step.Goals as goal
 
 pub returns-in-Ok : goal.returns-in-Ok
 returns-in-Ok g c =

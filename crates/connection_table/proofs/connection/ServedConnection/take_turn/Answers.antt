@@ -1,6 +1,6 @@
 use Rattle.std.proofs.Common.{◌≡◌, ◌≢◌, ◌∙◌, true, false, Option, None, ap, sym}
 use Rattle.std.specs.Prelude.{is_some}
-use Rattle.connection_table.proofs.connection.Connection.take_turn.Goals as goal
+use Rattle.connection_table.proofs.connection.ServedConnection.take_turn.Goals as goal
 
 -- what is there is not None
 there : {T : Type 0} (o : Option T) → is_some o ≡ true → o ≢ None
