@@ -3,7 +3,7 @@
 //!
 //! Proved by `tests/long/run --prove`.
 
-use crate::snapshots::fault;
+use super::snapshots::fault;
 use snapshot_file::{
     Header, MigrateError, Snapshot, SnapshotFault, migrate, read_snapshot, write_snapshot_bytes,
 };

@@ -1,8 +1,8 @@
 //! Snapshots of wide stores: the files of two records in both forms, damaged; records moved into
 //! slots; and ordinary snapshots made wide.
 
-use crate::slots::{file_of, moved};
-use crate::snapshots::{fault, fault_failing};
+use super::slots::{file_of, moved};
+use super::snapshots::{fault, fault_failing};
 use snapshot_file::{
     Header, MigrateError, Snapshot, SnapshotFault, WidenError, read_snapshot, widen,
 };
