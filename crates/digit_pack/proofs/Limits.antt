@@ -2,7 +2,7 @@
 use Rattle.std.proofs.Common.{◌≡◌, ◌≤◌, ◌<◌, ◌+◌, ◌-◌, ◌*◌, ◌/◌, ◌%◌, ℕ, arith, mul-le-mul_right, mul_comm}
 use Rattle.std.proofs.Math.Nat.{mod-lt}
 use Rattle.std.proofs.lemmas.Nat.{div_below, mul-le, div-add-mod'}
-use Rattle.digit_pack.specs.Layout.{Shape, IsLayout, HasWidth, HasRecord, ordinary_side, part_words, digit_rows, digit_cols, digits_per_record}
+use Rattle.digit_pack.specs.Layout.{Shape, IsLayout, HasWidth, HasRecord, ordinary_side, query_parts_count, digit_rows, digit_cols, digits_per_record}
 use Rattle.digit_pack.specs.Laws.{OrdinaryPartsAreFew, WideStoreHasRoom}
 use Rattle.digit_pack.proofs.Changes.{some_digits}
 use Rattle.digit_pack.proofs.RecordLemmas.{shape_of_layout}
@@ -19,7 +19,7 @@ few_digits l ok = few_in_record l ok.width ok.record_len
 
 pub few_parts : OrdinaryPartsAreFew
 few_parts l w r low =
-    let few : part_words l ≤ 342 * 4096 = mul-le (digits_per_record l) (digit_rows l) 342 4096 (few_in_record l w r) low in
+    let few : query_parts_count l ≤ 342 * 4096 = mul-le (digits_per_record l) (digit_rows l) 342 4096 (few_in_record l w r) low in
     omega (arith, few)
 
 pub few_rows : (l : Shape) → IsLayout l → digit_rows l ≤ 32768

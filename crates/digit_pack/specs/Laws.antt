@@ -4,7 +4,7 @@ use Rattle.matrix_u32.specs.Matrix.{WordMatrix, entry}
 use Rattle.lane_kernels.specs.Digit.{digit, split_count}
 use Rattle.digit_pack.specs.Slots.{slot_of, is_slot, content_of}
 use Rattle.digit_pack.specs.Digits.{digits_of, number_of, decomposed, recomposed, joined}
-use Rattle.digit_pack.specs.Layout.{Shape, IsShape, IsLayout, HasWidth, HasRecord, ordinary_side, part_words, IsRecord, FitsRecord, record_digits, record_bytes, digit_matrix, digits_per_record, digit_rows, digit_cols, first_row, column_of, record_at}
+use Rattle.digit_pack.specs.Layout.{Shape, IsShape, IsLayout, HasWidth, HasRecord, ordinary_side, query_parts_count, IsRecord, FitsRecord, record_digits, record_bytes, digit_matrix, digits_per_record, digit_rows, digit_cols, first_row, column_of, record_at}
 
 -- the digits of a word write the word
 abbrev pub SplitJoins : Type 0
@@ -66,7 +66,7 @@ ReplacedRecordChangesItsPlace = (l : Shape) (records : List (List ℕ)) (i : ℕ
 -- an ordinary matrix of digits leaves the parts of a query few, so an ordinary layout is judged by
 -- its rows alone
 abbrev pub OrdinaryPartsAreFew : Type 0
-OrdinaryPartsAreFew = (l : Shape) → HasWidth l → HasRecord l → digit_rows l ≤ ordinary_side → part_words l ≤ 4128768
+OrdinaryPartsAreFew = (l : Shape) → HasWidth l → HasRecord l → digit_rows l ≤ ordinary_side → query_parts_count l ≤ 4128768
 
 -- a wide layout has no more digits than a wide store
 abbrev pub WideStoreHasRoom : Type 0

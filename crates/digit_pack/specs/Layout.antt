@@ -117,13 +117,13 @@ abbrev pub HasRecord : Shape → Type 0
 HasRecord l = (1 ≤ l.record_len) × (l.record_len ≤ 256)
 
 -- how many words the parts of a query have: for each digit of a record one word for each row
-abbrev pub part_words : Shape → ℕ
-part_words l = digits_per_record l * digit_rows l
+abbrev pub query_parts_count : Shape → ℕ
+query_parts_count l = digits_per_record l * digit_rows l
 
 -- a record or more to a column, of as many digits as the side has at most, and as many words as a
 -- frame has room for
 abbrev pub HasGroups : Shape → Type 0
-HasGroups l = (1 ≤ l.groups) × (digit_rows l ≤ l.side) × (part_words l ≤ 4128768)
+HasGroups l = (1 ≤ l.groups) × (digit_rows l ≤ l.side) × (query_parts_count l ≤ 4128768)
 
 -- a record or more, in as many columns as the side has at most
 abbrev pub HasCount : Shape → Type 0
@@ -148,7 +148,7 @@ is_layout l =
     && ((nat_le 6 l.width && nat_le l.width 10)
     && ((nat_le l.side ordinary_side || nat_le l.width 9)
     && ((nat_le 1 l.record_len && nat_le l.record_len 256)
-    && ((nat_le 1 l.groups && (nat_le (digit_rows l) l.side && nat_le (part_words l) 4128768))
+    && ((nat_le 1 l.groups && (nat_le (digit_rows l) l.side && nat_le (query_parts_count l) 4128768))
     && (nat_le 1 l.count && nat_le (digit_cols l) l.side)))))
 
 -- the first limit that a shape breaks

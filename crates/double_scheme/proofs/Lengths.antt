@@ -8,7 +8,7 @@ use Rattle.matrix_u32.proofs.Products.{length-list_of}
 use Rattle.lane_kernels.specs.Digit.{split_count}
 use Rattle.digit_pack.specs.Layout.{Shape, digit_rows, digit_cols, digits_per_record}
 use Rattle.simple_scheme.specs.Simple.{simple_query}
-use Rattle.double_scheme.specs.Double.{first_query_of, part_query_of, double_query, double_query_count, first_answer_of, part_answer_of, part_of_query, double_answer, double_answer_count, words_of_part}
+use Rattle.double_scheme.specs.Double.{first_query_of, part_query_of, double_query, double_query_count, first_answer_of, part_answer_of, part_of_query, double_answer, double_answer_count, answer_part_count}
 use Rattle.double_scheme.proofs.Blocks.{length-blocks}
 
 -- blocks of one length after a prefix
@@ -27,7 +27,7 @@ length-query_of l a1 a2 seed number i rows1 rows2 =
     (length-list_of a1.rows _ ∙ rows1) (λ k. length-list_of a2.rows _ ∙ rows2)
 
 length-part : (w n : ℕ) (hint first : WordMatrix) (c : List ℕ) → hint.rows ≡ n * split_count w → first.rows ≡ split_count w →
-    length (part_answer_of hint first c) ≡ words_of_part w n
+    length (part_answer_of hint first c) ≡ answer_part_count w n
 length-part w n hint first c e f =
     length-append (times_vector hint c) (times_vector first c)
     ∙ ap (λ k. k + length (times_vector first c)) (length-list_of hint.rows _ ∙ e)
@@ -43,7 +43,7 @@ length-answer_of l digits hint a2 words e =
     let first = first_answer_of l.width digits (take (digit_cols l) words) in
     let one : first.rows ≡ split_count l.width = mul_one (split_count l.width) in
     after_prefix (product first a2).words (λ d. part_answer_of hint first (part_of_query l words d)) (a2.cols * split_count l.width)
-    (words_of_part l.width a2.cols) (digits_per_record l)
+    (answer_part_count l.width a2.cols) (digits_per_record l)
     (length-hint l.width first a2 one) (λ k. length-part l.width a2.cols hint first (part_of_query l words k) e one)
   where
     mul_one : (n : ℕ) → 1 * n ≡ n

@@ -11,7 +11,7 @@ use Rattle.regev_core.proofs.Rounding.{nearest-lt}
 use Rattle.digit_pack.specs.Layout.{Shape, IsLayout, digits_per_record}
 use Rattle.lane_kernels.specs.Digit.{split_count}
 use Rattle.simple_scheme.specs.Simple.{secret}
-use Rattle.double_scheme.specs.Double.{part_secret, words_of_part, answer_hint, answer_part, hint_part_words, row_read, word_read, part_read, double_digit_read, double_reading}
+use Rattle.double_scheme.specs.Double.{part_secret, answer_part_count, answer_hint, answer_part, server_hint_words, row_read, word_read, part_read, double_digit_read, double_reading}
 
 pub small_reading : (l : Shape) (hint : WordMatrix) (seed : List ℕ) (number : ℕ) (answer : List ℕ) → IsLayout l →
     All (λ d. d < 2 ^ l.width) (double_reading l hint seed number answer)
@@ -40,10 +40,10 @@ digit_is l hint seed number answer d w h s1 s2 r ew eh e1 e2 er =
     ∙ ap (λ w. part_read w n hint (answer_hint w n answer) (secret seed number n) (part_secret seed number n d) (answer_part w n answer d)) ew
 
 -- the words of part d of an answer that are the server's hint times its query
-pub words_for_the_row : (w n : ℕ) (answer : List ℕ) (d prefix size : ℕ) → prefix ≡ n * split_count w → size ≡ words_of_part w n →
-    take prefix (drop (prefix + d * size) answer) ≡ hint_part_words w n (answer_part w n answer d)
+pub words_for_the_row : (w n : ℕ) (answer : List ℕ) (d prefix size : ℕ) → prefix ≡ n * split_count w → size ≡ answer_part_count w n →
+    take prefix (drop (prefix + d * size) answer) ≡ server_hint_words w n (answer_part w n answer d)
 words_for_the_row w n answer d prefix size ep es =
     let k : ℕ = n * split_count w in
     ap (λ p. take p (drop (p + d * size) answer)) ep
     ∙ ap (λ s. take k (drop (k + d * s) answer)) es
-    ∙ sym (take-take k (words_of_part w n) (drop (k + d * words_of_part w n) answer) (omega arith))
+    ∙ sym (take-take k (answer_part_count w n) (drop (k + d * answer_part_count w n) answer) (omega arith))

@@ -13,7 +13,7 @@ use Rattle.digit_pack.specs.Digits.{number_of}
 use Rattle.digit_pack.specs.Laws.{SplitJoins, DigitsAreSmall, DecomposedStandsBelow, RecordStandsInside, RecordStandsInItsColumn}
 use Rattle.digit_pack.specs.Layout.{Shape, IsShape, digit_matrix, digit_rows, digit_cols, digits_per_record, first_row, column_of, record_at}
 use Rattle.simple_scheme.specs.Simple.{secret, query_noise, simple_query}
-use Rattle.double_scheme.specs.Double.{server_hint_of, client_hint_of, first_answer_of, first_query_of, part_query_of, double_query, part_of_query, part_answer_of, double_answer, answer_hint, answer_part, double_answer_count, words_of_part, second_digit, hint_part_words, first_words, row_read, word_read, double_digit_read, part_secret, part_noise, IsQuietDouble}
+use Rattle.double_scheme.specs.Double.{server_hint_of, client_hint_of, first_answer_of, first_query_of, part_query_of, double_query, part_of_query, part_answer_of, double_answer, answer_hint, answer_part, double_answer_count, answer_part_count, second_digit, server_hint_words, first_answer_words, row_read, word_read, double_digit_read, part_secret, part_noise, IsQuietDouble}
 use Rattle.double_scheme.specs.Laws.{GivesRowOf}
 use Rattle.double_scheme.proofs.Blocks.{block_after}
 use Rattle.double_scheme.proofs.Lengths.{length-answer_of}
@@ -41,11 +41,11 @@ module _ (l : Shape) (records : List (List ℕ)) (a1 a2 : WordMatrix) (seed : Li
       ≡ first_answer_of l.width (digit_matrix l records) (first_query_of l a1 seed number i)
   first_answer = ap (first_answer_of l.width (digit_matrix l records)) prefix
 
-  length-hint_part_words : (f : WordMatrix) → f.rows ≡ split_count l.width → length (product f a2).words ≡ a2.cols * split_count l.width
-  length-hint_part_words f e = length-list_of (f.rows * a2.cols) _ ∙ ap (λ k. k * a2.cols) e ∙ mul_comm (split_count l.width) a2.cols
+  length-server_hint_words : (f : WordMatrix) → f.rows ≡ split_count l.width → length (product f a2).words ≡ a2.cols * split_count l.width
+  length-server_hint_words f e = length-list_of (f.rows * a2.cols) _ ∙ ap (λ k. k * a2.cols) e ∙ mul_comm (split_count l.width) a2.cols
 
   length-part_answer : (f : WordMatrix) (c : List ℕ) → f.rows ≡ split_count l.width →
-      length (part_answer_of (server_hint_of l.width (digit_matrix l records) a1) f c) ≡ words_of_part l.width a2.cols
+      length (part_answer_of (server_hint_of l.width (digit_matrix l records) a1) f c) ≡ answer_part_count l.width a2.cols
   length-part_answer f c e =
       let one : length (times_vector (server_hint_of l.width (digit_matrix l records) a1) c) ≡ a1.cols * split_count l.width =
       length-list_of (a1.cols * split_count l.width) _ in
@@ -60,7 +60,7 @@ module _ (l : Shape) (records : List (List ℕ)) (a1 a2 : WordMatrix) (seed : Li
   unfolding double_answer
   answer_prefix =
       let first = first_answer_of l.width (digit_matrix l records) (take (digit_cols l) (double_query l a1 a2 seed number i)) in
-      take_at (product first a2).words _ (a2.cols * split_count l.width) (length-hint_part_words first (omega arith))
+      take_at (product first a2).words _ (a2.cols * split_count l.width) (length-server_hint_words first (omega arith))
       ∙ ap (λ f. (product f a2).words) first_answer
 
   answer_part_is : (d : ℕ) → d < digits_per_record l →
@@ -74,8 +74,8 @@ module _ (l : Shape) (records : List (List ℕ)) (a1 a2 : WordMatrix) (seed : Li
       let words = double_query l a1 a2 seed number i in
       let first = first_answer_of l.width (digit_matrix l records) (take (digit_cols l) words) in
       block_after (product first a2).words (λ k. part_answer_of hint first (part_of_query l words k)) (a2.cols * split_count l.width)
-      (words_of_part l.width a2.cols) (digits_per_record l) d
-      (length-hint_part_words first (omega arith)) (λ k. length-part_answer first (part_of_query l words k) (omega arith)) p
+      (answer_part_count l.width a2.cols) (digits_per_record l) d
+      (length-server_hint_words first (omega arith)) (λ k. length-part_answer first (part_of_query l words k) (omega arith)) p
       ∙ ap (part_answer_of hint first) (part d p)
       ∙ ap (λ f. part_answer_of hint f (part_query_of l a2 seed number i d)) first_answer
 
@@ -113,14 +113,14 @@ module _ (l : Shape) (records : List (List ℕ)) (a1 a2 : WordMatrix) (seed : Li
       let part = part_answer_of hint first (part_query_of l a2 seed number i d) in
       record {
         hint_digits = λ k b.
-            ap (λ y. second_digit w (product hint a2) s2 (hint_part_words w a2.cols y) k) (answer_part_is d q)
-            ∙ ap (λ n. second_digit w (product hint a2) s2 (hint_part_words w n part) k) cols
+            ap (λ y. second_digit w (product hint a2) s2 (server_hint_words w a2.cols y) k) (answer_part_is d q)
+            ∙ ap (λ n. second_digit w (product hint a2) s2 (server_hint_words w n part) k) cols
             ∙ hint_digit_of quiet_law small w m a1 a2 c s2 e r k s.small rows2 place.0 b
             (subst (λ n. IsQuiet w (row hint k) (part_noise seed number n d)) (sym rows2) (quiet.hint d k q b));
         first_digits = λ k b.
             let low : k < κ = omega arith in
-            ap (λ y. second_digit w (answer_hint w a2.cols answer) s2 (first_words w a2.cols y) k) (answer_part_is d q)
-            ∙ ap (λ n. second_digit w (answer_hint w a2.cols answer) s2 (first_words w n part) k) cols
+            ap (λ y. second_digit w (answer_hint w a2.cols answer) s2 (first_answer_words w a2.cols y) k) (answer_part_is d q)
+            ∙ ap (λ n. second_digit w (answer_hint w a2.cols answer) s2 (first_answer_words w n part) k) cols
             ∙ first_digit_of quiet_law small w m a1 a2 (answer_hint w a2.cols answer) c s2 e r k s.small rows2 place.0 low
             (subst (λ n. IsQuiet w (row first k) (part_noise seed number n d)) (sym rows2) (quiet.answer d k q low))
             (hint_row k);

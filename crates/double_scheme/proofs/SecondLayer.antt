@@ -12,7 +12,7 @@ use Rattle.regev_core.specs.Laws.{QuietMatrixRowGivesItsEntry}
 use Rattle.lane_kernels.specs.Digit.{digit, split_count}
 use Rattle.digit_pack.specs.Digits.{decomposed, decomposed_at, joined}
 use Rattle.digit_pack.specs.Laws.{SplitJoins, DigitsAreSmall, DecomposedStandsBelow}
-use Rattle.double_scheme.specs.Double.{second_digit, second_word, hint_part_words, first_words, server_hint_of, first_answer_of, one_row, row_read, word_read, part_answer_of}
+use Rattle.double_scheme.specs.Double.{second_digit, second_word, server_hint_words, first_answer_words, server_hint_of, first_answer_of, one_row, row_read, word_read, part_answer_of}
 
 -- a digit of a matrix of words, read through a quiet layer
 pub second_digit_of : QuietMatrixRowGivesItsEntry → DigitsAreSmall → (w : ℕ) (b a hint : WordMatrix) (s words : List ℕ) (e : List ℤ) (place r : ℕ) →
@@ -64,7 +64,7 @@ pub hint_digit_of : QuietMatrixRowGivesItsEntry → DigitsAreSmall → (w : ℕ)
     w < 32 → a2.rows ≡ d.rows → r < d.rows → k < a1.cols * split_count w →
     IsQuiet w (row (server_hint_of w d a1) k) e →
     second_digit w (product (server_hint_of w d a1) a2) s2
-    (hint_part_words w a1.cols (part_answer_of (server_hint_of w d a1) (first_answer_of w d c) (cipher w a2 s2 e r))) k
+    (server_hint_words w a1.cols (part_answer_of (server_hint_of w d a1) (first_answer_of w d c) (cipher w a2 s2 e r))) k
     ≡ entry (server_hint_of w d a1) k r
 hint_digit_of quiet_law small w d a1 a2 c s2 e r k low rows2 p inside quiet =
     let hint = server_hint_of w d a1 in
@@ -79,7 +79,7 @@ pub first_digit_of : QuietMatrixRowGivesItsEntry → DigitsAreSmall → (w : ℕ
     w < 32 → a2.rows ≡ d.rows → r < d.rows → k < split_count w →
     IsQuiet w (row (first_answer_of w d c) k) e →
     row h k ≡ row (product (first_answer_of w d c) a2) k →
-    second_digit w h s2 (first_words w a1.cols (part_answer_of (server_hint_of w d a1) (first_answer_of w d c) (cipher w a2 s2 e r))) k
+    second_digit w h s2 (first_answer_words w a1.cols (part_answer_of (server_hint_of w d a1) (first_answer_of w d c) (cipher w a2 s2 e r))) k
     ≡ entry (first_answer_of w d c) k r
 first_digit_of quiet_law small w d a1 a2 h c s2 e r k low rows2 p inside quiet row_is =
     let hint = server_hint_of w d a1 in

@@ -14,7 +14,7 @@ use Rattle.matrix_u32.proofs.Products.{words_are, at-list_of, length-list_of}
 use Rattle.digit_pack.specs.Products.{rows_times_vector}
 use Rattle.digit_pack.specs.Digits.{decomposed}
 use Rattle.digit_pack.specs.Layout.{Shape, digit_cols, digit_rows, digits_per_record}
-use Rattle.double_scheme.specs.Double.{one_column, first_answer_of, part_answer_of, part_answers_of, part_of_query, words_of_part, double_answer}
+use Rattle.double_scheme.specs.Double.{one_column, first_answer_of, part_answer_of, part_answers_of, part_of_query, answer_part_count, double_answer}
 use Rattle.double_scheme.specs.Steps.{HasFirst, HasColumn, HasParts, HasPartRows, HasStepsBuffers, IsMadeSoFar, IsMadeUntil, IsWholeAt, rows_made}
 use Rattle.double_scheme.specs.declared.steps.AnswerStage.{AnswerStage}
 use Rattle.double_scheme.specs.declared.steps.AnswerStage.TheVariants.{Column, Parts}
@@ -137,34 +137,34 @@ column_begun l d h a2 query column t made long cols room so_far all after first 
     record {
       rows = no_part_rows l h query t 0 (omega arith);
       first_is = is;
-      so_far = parts_begun l d h a2 t.first query t.words.items (a2.cols * split_count l.width + 0 * words_of_part l.width a2.cols) after.first_rows is hint (omega arith);
+      so_far = parts_begun l d h a2 t.first query t.words.items (a2.cols * split_count l.width + 0 * answer_part_count l.width a2.cols) after.first_rows is hint (omega arith);
     }
 
 -- the parts that are joined are the answer's
 pub parts_joined : (l : Shape) (d h a2 first : WordMatrix) (query old new : List ℕ) (p next len : ℕ) → h.rows ≡ a2.cols * split_count l.width →
-    first.rows ≡ split_count l.width → first ≡ first_answer_of l.width d (take (digit_cols l) query) → len ≡ words_of_part l.width a2.cols →
+    first.rows ≡ split_count l.width → first ≡ first_answer_of l.width d (take (digit_cols l) query) → len ≡ answer_part_count l.width a2.cols →
     ((prefix : List ℕ) → length prefix ≡ h.rows → HasFirst (h.rows + p * len) (prefix ++ part_answers_of l h first query) old →
     HasFirst (h.rows + next * len) (prefix ++ part_answers_of l h first query) new) →
-    HasFirst (a2.cols * split_count l.width + p * words_of_part l.width a2.cols) (double_answer l d h a2 query) old →
-    HasFirst (a2.cols * split_count l.width + next * words_of_part l.width a2.cols) (double_answer l d h a2 query) new
+    HasFirst (a2.cols * split_count l.width + p * answer_part_count l.width a2.cols) (double_answer l d h a2 query) old →
+    HasFirst (a2.cols * split_count l.width + next * answer_part_count l.width a2.cols) (double_answer l d h a2 query) new
 unfolding double_answer
 parts_joined l d h a2 first query old new p next len rows one is long joined before =
-    let place : (k : ℕ) → h.rows + k * len ≡ a2.cols * split_count l.width + k * words_of_part l.width a2.cols =
+    let place : (k : ℕ) → h.rows + k * len ≡ a2.cols * split_count l.width + k * answer_part_count l.width a2.cols =
     λ k. ap (λ n. n + k * len) rows ∙ ap (λ n. a2.cols * split_count l.width + k * n) long in
     let hint : length (product first a2).words ≡ h.rows =
     length-product first a2 ∙ ap (λ k. k * a2.cols) one ∙ mul_comm (split_count l.width) a2.cols ∙ sym rows in
-    subst (λ (m : WordMatrix). HasFirst (a2.cols * split_count l.width + next * words_of_part l.width a2.cols) ((product m a2).words ++ part_answers_of l h m query) new) is
+    subst (λ (m : WordMatrix). HasFirst (a2.cols * split_count l.width + next * answer_part_count l.width a2.cols) ((product m a2).words ++ part_answers_of l h m query) new) is
     (subst (λ n. HasFirst n ((product first a2).words ++ part_answers_of l h first query) new) (place next)
     (joined (product first a2).words hint
     (subst (λ n. HasFirst n ((product first a2).words ++ part_answers_of l h first query) old) (sym (place p))
-    (subst (λ (m : WordMatrix). HasFirst (a2.cols * split_count l.width + p * words_of_part l.width a2.cols) ((product m a2).words ++ part_answers_of l h m query) old) (sym is) before))))
+    (subst (λ (m : WordMatrix). HasFirst (a2.cols * split_count l.width + p * answer_part_count l.width a2.cols) ((product m a2).words ++ part_answers_of l h m query) old) (sym is) before))))
 
 whole_at : (l : Shape) (d h a2 : WordMatrix) (query : List ℕ) (s : AnswerSteps) (stage : AnswerStage) → HasStepsBuffers l a2.cols s → IsMadeUntil l d h a2 query s stage →
     h.rows ≡ a2.cols * split_count l.width → IsWholeAt l stage → s.words.items ≡ double_answer l d h a2 query
 whole_at l d h a2 query s (Column n) room made rows whole = absurd whole
 whole_at l d h a2 query s (Parts p r) room made rows whole =
     let k : ℕ = digits_per_record l in
-    let each : ℕ = words_of_part l.width a2.cols in
+    let each : ℕ = answer_part_count l.width a2.cols in
     let n : ℕ = a2.cols * split_count l.width + p * each in
     let all : p ≡ k = omega (arith, whole, made.rows.within) in
     let count : n ≡ a2.cols * split_count l.width + k * each = ap (λ q. a2.cols * split_count l.width + q * each) all in

@@ -83,12 +83,12 @@ double_answer l digits server_hint a2 words =
 
 -- ---- reading, from the words of an answer: the first answer's hint h, and the words of each part
 -- how many words a part of an answer has
-abbrev pub words_of_part : ℕ → ℕ → ℕ
-words_of_part w n = n * split_count w + split_count w
+abbrev pub answer_part_count : ℕ → ℕ → ℕ
+answer_part_count w n = n * split_count w + split_count w
 
 -- how many words an answer has, under public matrices of n columns
 abbrev pub double_answer_count : Shape → ℕ → ℕ
-double_answer_count l n = n * split_count l.width + digits_per_record l * words_of_part l.width n
+double_answer_count l n = n * split_count l.width + digits_per_record l * answer_part_count l.width n
 
 -- the hint of the first answer, row t of it for digit t
 abbrev pub answer_hint : ℕ → ℕ → List ℕ → WordMatrix
@@ -96,7 +96,7 @@ answer_hint w n answer = record { rows = split_count w; cols = n; words = take (
 
 -- the words of part d of an answer
 abbrev pub answer_part : ℕ → ℕ → List ℕ → ℕ → List ℕ
-answer_part w n answer d = take (words_of_part w n) (drop (n * split_count w + d * words_of_part w n) answer)
+answer_part w n answer d = take (answer_part_count w n) (drop (n * split_count w + d * answer_part_count w n) answer)
 
 -- a digit of the second layer: a word of a part, less a row of a hint times the part's secret,
 -- rounded
@@ -108,20 +108,20 @@ abbrev pub second_word : ℕ → WordMatrix → List ℕ → List ℕ → ℕ �
 second_word w hint s words k = joined w (list_of (split_count w) (λ t. second_digit w hint s words (k * split_count w + t)))
 
 -- the words of a part that are the server's hint times its query
-abbrev pub hint_part_words : ℕ → ℕ → List ℕ → List ℕ
-hint_part_words w n part = take (n * split_count w) part
+abbrev pub server_hint_words : ℕ → ℕ → List ℕ → List ℕ
+server_hint_words w n part = take (n * split_count w) part
 
 -- the words of a part that are the first answer times its query
-abbrev pub first_words : ℕ → ℕ → List ℕ → List ℕ
-first_words w n part = drop (n * split_count w) part
+abbrev pub first_answer_words : ℕ → ℕ → List ℕ → List ℕ
+first_answer_words w n part = drop (n * split_count w) part
 
 -- the digit's row of D A1, which the words of the server's hint times the query give
 abbrev pub row_read : ℕ → ℕ → WordMatrix → List ℕ → List ℕ → List ℕ
-row_read w n client_hint s2 part = list_of n (second_word w client_hint s2 (hint_part_words w n part))
+row_read w n client_hint s2 part = list_of n (second_word w client_hint s2 (server_hint_words w n part))
 
 -- the word of D c1 in the digit's row, which the words of the first answer times the query give
 abbrev pub word_read : ℕ → ℕ → WordMatrix → List ℕ → List ℕ → ℕ
-word_read w n h s2 part = second_word w h s2 (first_words w n part) 0
+word_read w n h s2 part = second_word w h s2 (first_answer_words w n part) 0
 
 -- the digit that a part gives: its word of D c1, less its row of D A1 times the first secret,
 -- rounded to the nearest digit

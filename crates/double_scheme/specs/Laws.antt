@@ -13,8 +13,8 @@ use Rattle.double_scheme.specs.Double.{
   part_secret,
   answer_hint,
   answer_part,
-  hint_part_words,
-  first_words,
+  server_hint_words,
+  first_answer_words,
   second_digit,
   row_read,
   word_read,
@@ -31,14 +31,14 @@ pub record GivesRowOf (l : Shape) (records : List (List ℕ)) (a1 a2 : WordMatri
       let answer = double_answer l digits server_hint a2 (double_query l a1 a2 seed number i) in
       (r : ℕ) → r < server_hint.rows →
       second_digit l.width (client_hint_of server_hint a2) (part_secret seed number a2.cols d)
-      (hint_part_words l.width a2.cols (answer_part l.width a2.cols answer d)) r
+      (server_hint_words l.width a2.cols (answer_part l.width a2.cols answer d)) r
       ≡ entry server_hint r (first_row l i + d)
   pub first_digits : let digits = digit_matrix l records in
       let answer = double_answer l digits (server_hint_of l.width digits a1) a2 (double_query l a1 a2 seed number i) in
       let first_answer = first_answer_of l.width digits (first_query_of l a1 seed number i) in
       (r : ℕ) → r < first_answer.rows →
       second_digit l.width (answer_hint l.width a2.cols answer) (part_secret seed number a2.cols d)
-      (first_words l.width a2.cols (answer_part l.width a2.cols answer d)) r
+      (first_answer_words l.width a2.cols (answer_part l.width a2.cols answer d)) r
       ≡ entry first_answer r (first_row l i + d)
   pub row : let digits = digit_matrix l records in
       let server_hint = server_hint_of l.width digits a1 in

@@ -6,7 +6,7 @@ use Rattle.digit_pack.specs.Layout.{Shape, IsLayout, digit_rows, digit_cols, dig
 use Rattle.double_scheme.specs.declared.steps.AnswerSteps.{AnswerSteps}
 use Rattle.double_scheme.specs.declared.steps.AnswerStage.{AnswerStage}
 use Rattle.double_scheme.specs.declared.steps.AnswerStage.TheVariants.{Column, Parts}
-use Rattle.double_scheme.specs.Double.{first_answer_of, part_of_query, double_answer, double_answer_count, words_of_part}
+use Rattle.double_scheme.specs.Double.{first_answer_of, part_of_query, double_answer, double_answer_count, answer_part_count}
 
 -- a list begins as another does: so many of them are the same
 abbrev pub HasFirst : ℕ → List ℕ → List ℕ → Type 0
@@ -24,8 +24,8 @@ pub record HasStepsBuffers (l : Shape) (n : ℕ) (s : AnswerSteps) : Type 0 wher
   pub hint_rows : s.hint.rows ≡ split_count l.width
   pub hint_cols : s.hint.cols ≡ n
   pub words_len : length s.words.items ≡ double_answer_count l n
-  pub x_len : length s.x.items ≡ words_of_part l.width n
-  pub y_len : length s.y.items ≡ words_of_part l.width n
+  pub x_len : length s.x.items ≡ answer_part_count l.width n
+  pub y_len : length s.y.items ≡ answer_part_count l.width n
 
 -- Before the parts: of the first layer's answer the words of the first rows are there.
 pub record HasColumn (l : Shape) (digits : WordMatrix) (query : List ℕ) (s : AnswerSteps) (n : ℕ) : Type 0 where
@@ -45,7 +45,7 @@ pub record HasPartRows (l : Shape) (server_hint : WordMatrix) (query : List ℕ)
 pub record HasParts (l : Shape) (digits server_hint a2 : WordMatrix) (query : List ℕ) (s : AnswerSteps) (d r : ℕ) : Type 0 where
   pub rows : HasPartRows l server_hint query s d r
   pub first_is : s.first ≡ first_answer_of l.width digits (take (digit_cols l) query)
-  pub so_far : HasFirst (a2.cols * split_count l.width + d * words_of_part l.width a2.cols) (double_answer l digits server_hint a2 query) s.words.items
+  pub so_far : HasFirst (a2.cols * split_count l.width + d * answer_part_count l.width a2.cols) (double_answer l digits server_hint a2 query) s.words.items
 
 -- What is there at a stage: some rows of the first layer's answer, or the answer up to a part.
 abbrev pub IsMadeUntil : Shape → WordMatrix → WordMatrix → WordMatrix → List ℕ → AnswerSteps → AnswerStage → Type 0

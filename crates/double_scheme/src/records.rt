@@ -7,8 +7,8 @@ ghost use Rattle.matrix_u32.specs.Matrix.{entry, row};
 ghost use Rattle.regev_core.specs.Encryption.{nearest, stripped};
 ghost use Rattle.lane_kernels.specs.Digit.{split_count};
 ghost use Rattle.digit_pack.specs.Layout.{digits_per_record};
-ghost use Rattle.double_scheme.specs.Double.{words_of_part, double_answer_count, answer_hint};
-ghost use Rattle.double_scheme.specs.Double.{answer_part, hint_part_words, second_word, row_read};
+ghost use Rattle.double_scheme.specs.Double.{answer_part_count, double_answer_count, answer_hint};
+ghost use Rattle.double_scheme.specs.Double.{answer_part, server_hint_words, second_word, row_read};
 ghost use Rattle.double_scheme.specs.Double.{word_read, double_reading};
 ghost use Rattle.double_scheme.specs.Recovery.{DoubleReadsRecord, DoubleGivesQuietRecord};
 
@@ -74,13 +74,13 @@ fn read_column<K: Kernel>(
     requires inside { k < client_hint.now.cols }
     requires secrets { reading.now.secrets.now.cols ≡ client_hint.now.cols }
     requires words { client_hint.now.cols * split_count reading.now.w + reading.now.secrets.now.rows
-        * words_of_part reading.now.w client_hint.now.cols ≤ length reading.now.answer.now }
+        * answer_part_count reading.now.w client_hint.now.cols ≤ length reading.now.answer.now }
     requires scratch { length digits.old ≡ split_count reading.now.w }
     requires out_rows { out.old.rows ≡ reading.now.secrets.now.rows }
     requires out_cols { out.old.cols ≡ client_hint.now.cols }
     ensures here { (d : ℕ) → d < reading.now.secrets.now.rows → entry out.new d k
         ≡ second_word reading.now.w client_hint.now (row reading.now.secrets.now d)
-        (hint_part_words reading.now.w client_hint.now.cols
+        (server_hint_words reading.now.w client_hint.now.cols
         (answer_part reading.now.w client_hint.now.cols reading.now.answer.now d)) k }
     ensures others { (d j : ℕ) → d < out.old.rows → j < out.old.cols → j ≢ k →
         entry out.new d j ≡ entry out.old d j }
@@ -111,7 +111,7 @@ fn read_rows<K: Kernel>(
     requires rows { client_hint.now.rows ≡ client_hint.now.cols * split_count reading.now.w }
     requires secrets { reading.now.secrets.now.cols ≡ client_hint.now.cols }
     requires words { client_hint.now.cols * split_count reading.now.w + reading.now.secrets.now.rows
-        * words_of_part reading.now.w client_hint.now.cols ≤ length reading.now.answer.now }
+        * answer_part_count reading.now.w client_hint.now.cols ≤ length reading.now.answer.now }
     requires scratch { length digits.old ≡ split_count reading.now.w }
     requires out_rows { out.old.rows ≡ reading.now.secrets.now.rows }
     requires out_cols { out.old.cols ≡ client_hint.now.cols }
@@ -152,7 +152,7 @@ fn read_part<K: Kernel>(
     requires row { length row.now ≡ first.now.hint.now.cols }
     requires first_words { length first.now.secret.now ≡ first.now.hint.now.cols }
     requires part_words { length part_secret.now ≡ first.now.hint.now.cols }
-    requires part { length part.now ≡ words_of_part w first.now.hint.now.cols }
+    requires part { length part.now ≡ answer_part_count w first.now.hint.now.cols }
     requires scratch { length digits.old ≡ split_count w }
     ensures { result ≡ nearest w (stripped
         (word_read w first.now.hint.now.cols first.now.hint.now part_secret.now part.now)
@@ -238,7 +238,7 @@ fn read_digits_of_parts<K: Kernel>(
     requires parts { (rows.now.rows ≡ length out.old)
         × (reading.now.secrets.now.rows ≡ length out.old) }
     requires words { first.now.hint.now.cols * split_count reading.now.w
-        + length out.old * words_of_part reading.now.w first.now.hint.now.cols
+        + length out.old * answer_part_count reading.now.w first.now.hint.now.cols
         ≤ length reading.now.answer.now }
     requires scratch { length digits.old ≡ split_count reading.now.w }
     ensures { out.new ≡ list_of (length out.old) (λ d. nearest reading.now.w (stripped

@@ -7,7 +7,7 @@ ghost use Rattle.digit_pack.specs.Digits.{decomposed};
 ghost use Rattle.lane_kernels.specs.Digit.{split_count};
 ghost use Rattle.digit_pack.specs.Layout.{digit_rows, digit_cols, digits_per_record};
 ghost use Rattle.double_scheme.specs.Double.{one_column, first_answer_of, part_answer_of};
-ghost use Rattle.double_scheme.specs.Double.{part_answers_of, part_of_query, words_of_part};
+ghost use Rattle.double_scheme.specs.Double.{part_answers_of, part_of_query, answer_part_count};
 ghost use Rattle.double_scheme.specs.Double.{double_query_count, double_answer};
 ghost use Rattle.double_scheme.specs.Steps.{HasColumn, HasFirst, HasParts, HasPartRows};
 ghost use Rattle.double_scheme.specs.Steps.{HasStepsBuffers, IsMadeSoFar, IsMadeUntil, IsWholeAt};
@@ -611,7 +611,7 @@ impl AnswerSteps {
             self.old.first ≡ first_answer_of self.old.layout.width digits
             (take (digit_cols self.old.layout) query.now) →
             HasFirst (a2.cols * split_count self.old.layout.width
-            + part * words_of_part self.old.layout.width a2.cols)
+            + part * answer_part_count self.old.layout.width a2.cols)
             (double_answer self.old.layout digits (S.digits server_hint.now) a2 query.now)
             self.old.words.items →
             IsMadeSoFar self.old.layout digits (S.digits server_hint.now) a2 query.now self.new }

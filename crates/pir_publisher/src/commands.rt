@@ -6,7 +6,7 @@ use publisher_drafts::{EditFault, LineFault};
 use publisher_files::{
     Drafted, ImportFault, add, diff, import, init, publish, set, show, show_record,
 };
-use publisher_words::{Adding, Beginning, Setting, Showing, Task, task_of};
+use publisher_words::{AddOptions, InitOptions, SetOptions, ShowOptions, Task, task_of};
 
 /// The exit status of an import with a bad line.
 const BAD_LINE: u8 = 3;
@@ -39,8 +39,8 @@ fn run_task(rt: &HostRuntime, task: Task<'_>) -> Result<(), Failed> {
         Task::Init(beginning) => begin(rt, &beginning),
         // Done already, since a bad line is reported in its own way.
         Task::Import(_) => Ok(()),
-        Task::Set(Setting { dir, index, bytes }) => say_drafted(rt, set(rt, dir, index, bytes)?),
-        Task::Add(Adding { dir, bytes }) => say_drafted(rt, add(rt, dir, bytes)?),
+        Task::Set(SetOptions { dir, index, bytes }) => say_drafted(rt, set(rt, dir, index, bytes)?),
+        Task::Add(AddOptions { dir, bytes }) => say_drafted(rt, add(rt, dir, bytes)?),
         Task::Show(showing) => show_folder(rt, &showing),
         Task::Diff(dir) => diff(rt, dir),
         Task::Publish(dir) => publish_draft(rt, dir),
@@ -50,7 +50,7 @@ fn run_task(rt: &HostRuntime, task: Task<'_>) -> Result<(), Failed> {
 }
 
 // Prints what a folder has, or a record of it.
-fn show_folder(rt: &HostRuntime, showing: &Showing<'_>) -> Result<(), Failed> {
+fn show_folder(rt: &HostRuntime, showing: &ShowOptions<'_>) -> Result<(), Failed> {
     match showing.index {
         Some(index) => show_record(rt, showing.dir, index),
         None => show(rt, showing.dir),
@@ -58,7 +58,7 @@ fn show_folder(rt: &HostRuntime, showing: &Showing<'_>) -> Result<(), Failed> {
 }
 
 // Begins a folder, and prints how many records it has and its version.
-fn begin(rt: &HostRuntime, beginning: &Beginning<'_>) -> Result<(), Failed> {
+fn begin(rt: &HostRuntime, beginning: &InitOptions<'_>) -> Result<(), Failed> {
     let count = init(rt, beginning.dir, beginning.making)?;
     printed(rt, println!(rt; "made {count} 1"))
 }

@@ -6,7 +6,7 @@ use crate::talk::{Aim, Round};
 use crate::watching::watch;
 use command_words::{Failed, Failure, printed};
 use publisher_files::{FolderVersion, open_folder, records_name, settled_folder};
-use publisher_words::{Asking, KEY_TAKES, Peer, Pushing};
+use publisher_words::{KEY_TAKES, Peer, PushOptions, StatusOptions};
 use safe_files::{FileLock, LockFault, lock};
 use server_files::failed_at;
 use std::alloc::{AllocError, Global};
@@ -34,7 +34,7 @@ const NO_REPLY: Failure = Failure::Fault("Connect");
 /// Those of the key; `Locked` if another push from this folder goes on, or another command changes
 /// it for long; those of the folder; `Left` if a server was left as it is, after a line for each.
 /// `Write` if a line can't be printed, `Memory`.
-pub fn push(rt: &HostRuntime, pushing: &Pushing<'_>) -> Result<(), Failed> {
+pub fn push(rt: &HostRuntime, pushing: &PushOptions<'_>) -> Result<(), Failed> {
     let key = pushing
         .key
         .key(rt, KEY_TAKES)
@@ -54,7 +54,7 @@ pub fn push(rt: &HostRuntime, pushing: &Pushing<'_>) -> Result<(), Failed> {
 fn push_from(
     rt: &HostRuntime,
     rounds: &mut Rounds,
-    pushing: &Pushing<'_>,
+    pushing: &PushOptions<'_>,
     aim: Aim,
     key: [u8; 32],
 ) -> Result<(), Failed> {
@@ -75,7 +75,7 @@ fn watch_from(
     rt: &HostRuntime,
     rounds: &mut Rounds,
     folder: &mut FolderVersion,
-    pushing: &Pushing<'_>,
+    pushing: &PushOptions<'_>,
     aim: Aim,
     key: [u8; 32],
 ) -> Result<(), Failed> {
@@ -147,7 +147,7 @@ pub fn say_end(rt: &HostRuntime, peer: &Peer<'_>, end: End) -> Result<(), Failed
 ///
 /// Those of the folder; `Connect` if a server did not tell, after a line for each. `Write` if a
 /// line can't be printed, `Memory`.
-pub fn status(rt: &HostRuntime, asking: &Asking<'_>) -> Result<(), Failed> {
+pub fn status(rt: &HostRuntime, asking: &StatusOptions<'_>) -> Result<(), Failed> {
     let folder = read_folder(rt, asking.dir)?;
     say_all(rt, &folder, &asking.to)
 }

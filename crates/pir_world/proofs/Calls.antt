@@ -22,10 +22,10 @@ use Rattle.client_core.specs.Calls.{call_since, frame_since, call_refusal, sync_
 use Rattle.client_core.specs.Calls.{Hello as hello_call, Sync as sync_call, Ask as ask_call}
 use Rattle.client_core.specs.Replies.{reaction_to_reply}
 use Rattle.client_core.specs.Feeding.{takes_all, fault_of}
-use Rattle.pir_world.specs.Runs.{Wire, Link, Entry, sent, arrived, beyond, reacts, reader_key}
+use Rattle.pir_world.specs.Runs.{Wire, ClientLink, LogEntry, sent, arrived, beyond, reacts, reader_key}
 use Rattle.pir_world.specs.Versions.{seed_of}
 use Rattle.pir_world.specs.Headlines.{IsRight}
-use Rattle.pir_world.specs.Invariants.{CallIs, DeltaIs, GoodHistory, KnownIs, SyncIs, IsReply, outstanding_frame, InFlight, Phase, LinkInvariant}
+use Rattle.pir_world.specs.Invariants.{CallIs, DeltaIs, GoodHistory, KnownIs, SyncIs, IsReply, outstanding_frame, InFlight, IsDuringCall, LinkInvariant}
 use Rattle.pir_world.proofs.Receipts.{reported_by}
 use Rattle.pir_world.proofs.Wires.{none_arrives, one_arrives, Split, IsFew, split_few}
 use Rattle.pir_world.proofs.Serves.{served_link}
@@ -68,8 +68,8 @@ else_none true x y e = absurd cc
 else_none false x y e = (refl, e)
 
 idle_phase : (x : Setting) (h : History) (st : Standing) (seed : List ℕ) (c : ClientState) (call : Call) (up down : List Frame) → call ≡ Idle →
-    Phase x h st seed c call up down → (up ≡ []) × (down ≡ [])
-idle_phase x h st seed c call up down e p = let P : Call → Type 0 = λ y. Phase x h st seed c y up down in subst P e p
+    IsDuringCall x h st seed c call up down → (up ≡ []) × (down ≡ [])
+idle_phase x h st seed c call up down e p = let P : Call → Type 0 = λ y. IsDuringCall x h st seed c y up down in subst P e p
 
 flight : (x : Setting) (h : History) (st : Standing) (seed : List ℕ) (c : ClientState) (call : Call) (up down : List Frame) → (up ≡ []) × (down ≡ []) →
     InFlight x h st seed c call (up ++ outstanding_frame c call ∷ []) down
@@ -120,7 +120,7 @@ since_is x h c since true e d = (d, e)
 since_is x h c since false e d = d
 
 since_flies : (x : Setting) (h : History) (st : Standing) (seed : List ℕ) (c : ClientState) (since : ℕ) (wide : Bool) (up down : List Frame) →
-    InFlight x h st seed c (call_since wide since) up down → Phase x h st seed c (call_since wide since) up down
+    InFlight x h st seed c (call_since wide since) up down → IsDuringCall x h st seed c (call_since wide since) up down
 since_flies x h st seed c since true up down f = f
 since_flies x h st seed c since false up down f = f
 
@@ -129,11 +129,11 @@ since_outstanding c since true = refl
 since_outstanding c since false = refl
 
 -- the link where a sync has begun
-abbrev pub link_begun : Option ℕ → Scheme → Link → Link
+abbrev pub link_begun : Option ℕ → Scheme → ClientLink → ClientLink
 link_begun base s l =
     record { client = sync_begun base s l.client; standing = l.standing; up = sent l.up (sync_frame base s l.client ∷ []); down = l.down }
 
-module _ (x : Setting) (h : History) (seed : List ℕ) (l : Link) (g : GoodHistory x h) (i : LinkInvariant x h seed l) where
+module _ (x : Setting) (h : History) (seed : List ℕ) (l : ClientLink) (g : GoodHistory x h) (i : LinkInvariant x h seed l) where
   nothing_waits : l.client.call ≡ Idle → (l.up.frames ≡ []) × (l.down.frames ≡ [])
   nothing_waits e = idle_phase x h l.standing seed l.client l.client.call l.up.frames l.down.frames e i.phase
 
@@ -226,17 +226,17 @@ module _ (x : Setting) (h : History) (seed : List ℕ) (l : Link) (g : GoodHisto
 
 -- ---- a delivery to the client
 
-pub record ReportedLink (x : Setting) (seeds : List (List ℕ)) (h : History) (k : ℕ) (l : Link) (es : List Entry) : Type 0 where
+pub record ReportedLink (x : Setting) (seeds : List (List ℕ)) (h : History) (k : ℕ) (l : ClientLink) (es : List LogEntry) : Type 0 where
   pub link : LinkInvariant x h (seed_of seeds k) l
   pub right : AllByRecursion (IsRight x seeds h) es
 
-module _ (law : RetrievalGivesTheRecord) (x : Setting) (seeds : List (List ℕ)) (k : ℕ) (h : History) (l : Link) (g : GoodHistory x h)
+module _ (law : RetrievalGivesTheRecord) (x : Setting) (seeds : List (List ℕ)) (k : ℕ) (h : History) (l : ClientLink) (g : GoodHistory x h)
     (i : LinkInvariant x h (seed_of seeds k) l) where
   client_inv : ClientInv x h (seed_of seeds k) l.standing l.client
   client_inv = record { seed_is = i.seed_is; profile_is = i.profile_is; alive = i.alive; known = i.known; hint = i.hint; call = i.call }
 
   -- the link where these replies arrive and this is after them
-  abbrev with_replies : List Frame → Wire → Link
+  abbrev with_replies : List Frame → Wire → ClientLink
   with_replies fs b = record {
     client = (takes_all l.client fs).state;
     standing = l.standing;
@@ -262,7 +262,7 @@ module _ (law : RetrievalGivesTheRecord) (x : Setting) (seeds : List (List ℕ))
   })
 
   -- after a reply without a fault nothing more is reported of none
-  abbrev reported_one : Frame → List Entry
+  abbrev reported_one : Frame → List LogEntry
   reported_one r = reported_by k l.client (r ∷ [])
 
   reported_one_is : (r : Frame) → fault_of (reaction_to_reply l.client r).reaction ≡ None →
@@ -286,7 +286,7 @@ module _ (law : RetrievalGivesTheRecord) (x : Setting) (seeds : List (List ℕ))
               t.client.call;
           phase = rw (u, d) t.phase;
         };
-        right = subst (λ (es : List Entry). AllByRecursion (IsRight x seeds h) es) (sym (reported_one_is r t.no_fault)) t.right;
+        right = subst (λ (es : List LogEntry). AllByRecursion (IsRight x seeds h) es) (sym (reported_one_is r t.no_fault)) t.right;
       })
 
   reported_flight : (most : ℕ) (call : Call) → call ≡ l.client.call → InFlight x h l.standing (seed_of seeds k) l.client call l.up.frames l.down.frames →
@@ -298,7 +298,7 @@ module _ (law : RetrievalGivesTheRecord) (x : Setting) (seeds : List (List ℕ))
         (subst (λ (y : Call). IsReply x h l.standing (seed_of seeds k) (scheme_held l.client.hint) y p.1.0) e p.1.2)
   ]
 
-  reported_phase : (most : ℕ) (call : Call) → call ≡ l.client.call → Phase x h l.standing (seed_of seeds k) l.client call l.up.frames l.down.frames →
+  reported_phase : (most : ℕ) (call : Call) → call ≡ l.client.call → IsDuringCall x h l.standing (seed_of seeds k) l.client call l.up.frames l.down.frames →
       ReportedLink x seeds h k (link_reported most l) (reported_by k l.client (arrived l.down most))
   reported_phase most Idle e p = let a = none_arrives l.down most p.1 in no_reply (arrived l.down most) (beyond l.down most) a.0 (a.1 ∙ sym p.1)
   reported_phase most Hello e p = reported_flight most Hello e p
@@ -323,7 +323,7 @@ module _ (law : RetrievalGivesTheRecord) (x : Setting) (seeds : List (List ℕ))
       rw (a.0 ∙ p.1.1) t.no_fault
 
   prefix_phase : (call : Call) (fs more : List Frame) → call ≡ l.client.call → Split l.down.frames fs more →
-      Phase x h l.standing (seed_of seeds k) l.client call l.up.frames l.down.frames → (takes_all l.client fs).fault ≡ None
+      IsDuringCall x h l.standing (seed_of seeds k) l.client call l.up.frames l.down.frames → (takes_all l.client fs).fault ≡ None
   prefix_phase Idle fs more e (inl a) p = rw a.0 refl
   prefix_phase Idle fs more e (inr a) p = rw (a.0 ∙ p.1) refl
   prefix_phase Hello fs more e a p = prefix_flight Hello fs more e a p
@@ -340,7 +340,7 @@ module _ (law : RetrievalGivesTheRecord) (x : Setting) (seeds : List (List ℕ))
 
 -- ---- a delivery to the server
 
-pub record ServedInv (x : Setting) (seeds : List (List ℕ)) (h : History) (seed : List ℕ) (l : Link) (h2 : History) (es : List Entry) : Type 0 where
+pub record ServedInv (x : Setting) (seeds : List (List ℕ)) (h : History) (seed : List ℕ) (l : ClientLink) (h2 : History) (es : List LogEntry) : Type 0 where
   pub link : LinkInvariant x h seed l
   pub history_is : h2 ≡ h
   pub right : AllByRecursion (IsRight x seeds h) es
@@ -355,7 +355,7 @@ few_flight x h st seed c call up down (inl p) = (inr (outstanding_frame c call, 
 few_flight x h st seed c call up down (inr p) = (inl p.0, inr (p.1.0, p.1.1))
 
 pub few_frames : (x : Setting) (h : History) (st : Standing) (seed : List ℕ) (c : ClientState) (call : Call) (up down : List Frame) →
-    Phase x h st seed c call up down → IsFew up × IsFew down
+    IsDuringCall x h st seed c call up down → IsFew up × IsFew down
 few_frames x h st seed c Idle up down p = (inl p.0, inl p.1)
 few_frames x h st seed c Hello up down p = few_flight x h st seed c Hello up down p
 few_frames x h st seed c (Sync scheme v q) up down p = few_flight x h st seed c (Sync scheme v q) up down p
@@ -366,7 +366,7 @@ few_frames x h st seed c Edit up down p = absurd p
 few_frames x h st seed c Append up down p = absurd p
 few_frames x h st seed c Publish up down p = absurd p
 
-pub served_inv : (short : Bool) (most : ℕ) (x : Setting) (seeds : List (List ℕ)) (k : ℕ) (h : History) (seed : List ℕ) (l : Link) → GoodHistory x h → LinkInvariant x h seed l
+pub served_inv : (short : Bool) (most : ℕ) (x : Setting) (seeds : List (List ℕ)) (k : ℕ) (h : History) (seed : List ℕ) (l : ClientLink) → GoodHistory x h → LinkInvariant x h seed l
     → ServedInv x seeds h seed (link_served x short k most h l) (turn_of x short k most h l).history (turn_of x short k most h l).log
 served_inv short most x seeds k h seed l g i =
     let few = few_frames x h l.standing seed l.client l.client.call l.up.frames l.down.frames i.phase in

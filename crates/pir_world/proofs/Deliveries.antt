@@ -17,7 +17,7 @@ use Rattle.client_core.specs.declared.state.ClientFault.{ClientFault}
 use Rattle.client_core.specs.declared.state.ClientFault.TheVariants.{Memory}
 use Rattle.client_core.specs.declared.state.Event.{Event}
 use Rattle.client_core.specs.Feeding.{Client, Course, takes_all, FeedsOpen, FeedsFailed, Follows, Gives, ends_with, failing}
-use Rattle.pir_world.specs.Runs.{Link, serves, arrived, beyond, sent}
+use Rattle.pir_world.specs.Runs.{ClientLink, serves, arrived, beyond, sent}
 use Rattle.pir_schemes.specs.Laws.{RetrievalGivesTheRecord}
 use Rattle.pir_world.specs.Versions.{seed_of}
 use Rattle.pir_world.specs.Invariants.{GoodHistory, LinkInvariant}
@@ -34,12 +34,12 @@ use Rattle.pir_world.proofs.Links.{link_reported, turn_of, link_served}
 -- ---- the client
 
 -- what a delivery to the client leaves where it had no fault
-pub record EndReported (wide : Bool) (e : Side) (session : Session) (l : Link) (most : ℕ) (events : List Event) : Type 0 where
+pub record EndReported (wide : Bool) (e : Side) (session : Session) (l : ClientLink) (most : ℕ) (events : List Event) : Type 0 where
   pub end_is : EndIs wide e session (link_reported most l)
   pub events_are : events ≡ (takes_all l.client (arrived l.down most)).events
   pub good : (takes_all l.client (arrived l.down most)).fault ≡ None
 
-module _ (law : RetrievalGivesTheRecord) (x : Setting) (seeds : List (List ℕ)) (k : ℕ) (h : History) (l : Link) (g : GoodHistory x h)
+module _ (law : RetrievalGivesTheRecord) (x : Setting) (seeds : List (List ℕ)) (k : ℕ) (h : History) (l : ClientLink) (g : GoodHistory x h)
     (inv : LinkInvariant x h (seed_of seeds k) l) (e e2 : Side) (session : Session) (most : ℕ) (i : EndIs (is_wide_setting x) e session l) where
   abbrev Reported : List Event → Option ClientFault → Type 0
   Reported events fault = (fault ≡ Some Memory) ⊎ ((fault ≡ None) × EndReported (is_wide_setting x) e2 session l most events)
@@ -151,13 +151,13 @@ few_of_split all fs more (inl e) (inr a) = inl (a.0 ∙ e)
 few_of_split all fs more (inr e) (inr a) = inr (e.0, a.0 ∙ e.1)
 
 -- what a delivery to the server leaves
-pub record EndServed (x : Setting) (k : ℕ) (h : History) (l : Link) (most : ℕ) (store : StoreState) (e2 : Side) (after : Session) : Type 0 where
+pub record EndServed (x : Setting) (k : ℕ) (h : History) (l : ClientLink) (most : ℕ) (store : StoreState) (e2 : Side) (after : Session) : Type 0 where
   pub short : Bool
   pub setting_is : setting_of store ≡ x
   pub store_is : StandsFor store (turn_of x short k most h l).history
   pub end_is : EndIs (is_wide_setting x) e2 after (link_served x short k most h l)
 
-module _ (x : Setting) (seeds : List (List ℕ)) (k : ℕ) (h : History) (l : Link) (good : GoodHistory x h) (inv : LinkInvariant x h (seed_of seeds k) l) (e e2 : Side)
+module _ (x : Setting) (seeds : List (List ℕ)) (k : ℕ) (h : History) (l : ClientLink) (good : GoodHistory x h) (inv : LinkInvariant x h (seed_of seeds k) l) (e e2 : Side)
     (session after : Session) (store : StoreState) (most : ℕ) (replies : List ℕ) (i : EndIs (is_wide_setting x) e session l) where
   unclosed : is_closed session.standing ≡ false
   unclosed = ap is_closed i.standing_is ∙ inv.unclosed

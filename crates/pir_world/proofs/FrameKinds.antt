@@ -23,7 +23,7 @@ use Rattle.client_core.specs.States.{is_wide_client, delta_base}
 use Rattle.client_core.specs.Calls.{ClientCall, Hello, Sync, Ask, Edit, Append, Publish, call_frame, frame_since, sync_frame}
 use Rattle.client_core.specs.Replies.{reaction_to_reply}
 use Rattle.client_core.specs.Feeding.{Course, runs, course_more, takes_all, start, sends_of}
-use Rattle.pir_world.specs.Runs.{Link, Turn, served_or, turn_more, turns, arrived}
+use Rattle.pir_world.specs.Runs.{ClientLink, Turn, served_or, turn_more, turns, arrived}
 use Rattle.pir_world.proofs.Links.{turn_of}
 
 -- a frame of a kind that a stream has
@@ -124,6 +124,6 @@ turns_known x short k t (f ∷ fs) known = turns_known x short k (turn_more x sh
 ])
 
 -- the replies of a turn
-pub turn_known : (x : Setting) (short : Bool) (k most : ℕ) (h : History) (l : Link) →
+pub turn_known : (x : Setting) (short : Bool) (k most : ℕ) (h : History) (l : ClientLink) →
     AllByRecursion (Known (is_wide_setting x)) (turn_of x short k most h l).replies
 turn_known x short k most h l = turns_known x short k _ (arrived l.up most) tt

@@ -26,7 +26,7 @@ use Rattle.client_core.specs.Replies.{event_read, reaction_to_reply}
 use Rattle.pir_world.specs.declared.steps.Step.{Step}
 use Rattle.pir_world.specs.declared.steps.Step.TheVariants.{Edit, Append, Publish, Hello, Sync, Ask, ToServer, ToClient}
 use Rattle.pir_world.specs.declared.steps.Outcome.TheVariants.{Published, Reported}
-use Rattle.pir_world.specs.Runs.{State, Link, Turn, Entry, Called, Sent, Served, Ended, Plain, serves, arrived, beyond, reports, reacts, state_after, call_at, called_at, served_at, edit_after, publish_after, StepsTo, RunsTo, reader_key, opening, setting_in, append_after}
+use Rattle.pir_world.specs.Runs.{State, ClientLink, Turn, LogEntry, Called, Sent, Served, Ended, Plain, serves, arrived, beyond, reports, reacts, state_after, call_at, called_at, served_at, edit_after, publish_after, StepsTo, RunsTo, reader_key, opening, setting_in, append_after}
 use Rattle.pir_world.specs.Versions.{seed_of}
 use Rattle.pir_world.specs.Headlines.{IsRight, IsRightEvent}
 use Rattle.pir_world.specs.Invariants.{LinkInvariant, EachAfter, WorldInvariant}
@@ -55,7 +55,7 @@ event_up_to h (Done v) p = absurd p
 event_up_to h (Refused code) p = tt
 
 module _ (x : Setting) (seeds : List (List ℕ)) (h : History) where
-  entry_up_to : (e : Entry) → IsRight x seeds h e → ReportedUpTo (current_version h) e
+  entry_up_to : (e : LogEntry) → IsRight x seeds h e → ReportedUpTo (current_version h) e
   entry_up_to (Called k want call_refusal) p = tt
   entry_up_to (Sent k f) p = tt
   entry_up_to (Served k f now reply) p = tt
@@ -66,12 +66,12 @@ module _ (x : Setting) (seeds : List (List ℕ)) (h : History) where
   entry_up_to (Plain (Published v)) p = p.1.0
   entry_up_to (Plain _) p = tt
 
-  all_up_to : (es : List Entry) → AllByRecursion (IsRight x seeds h) es → AllByRecursion (ReportedUpTo (current_version h)) es
+  all_up_to : (es : List LogEntry) → AllByRecursion (IsRight x seeds h) es → AllByRecursion (ReportedUpTo (current_version h)) es
   all_up_to [] p = tt
   all_up_to (e ∷ es) p = (entry_up_to e p.0, all_up_to es p.1)
 
 -- a delivery to the server brings at most one frame
-few_arrive : (x : Setting) (h : History) (seed : List ℕ) (l : Link) → LinkInvariant x h seed l → (most : ℕ) → IsFew (arrived l.up most)
+few_arrive : (x : Setting) (h : History) (seed : List ℕ) (l : ClientLink) → LinkInvariant x h seed l → (most : ℕ) → IsFew (arrived l.up most)
 few_arrive x h seed l i most =
     let few = (few_frames x h l.standing seed l.client l.client.call l.up.frames l.down.frames i.phase).0 in
     few_of_split l.up.frames (arrived l.up most) (beyond l.up most).frames few (split_few l.up most few)
@@ -79,7 +79,7 @@ few_arrive x h seed l i most =
 -- ---- the next delivery
 
 -- of at most one frame
-one_fresh : (x : Setting) (short : Bool) (k : ℕ) (h : History) (st : Standing) (log : List Entry) (fs : List Frame) → IsFew fs →
+one_fresh : (x : Setting) (short : Bool) (k : ℕ) (h : History) (st : Standing) (log : List LogEntry) (fs : List Frame) → IsFew fs →
     AllByRecursion (ReportedUpTo (current_version h)) log → AllByRecursion (IsFreshIn h log) (serves x short k h st fs).log
 one_fresh x short k h st log fs (inl e) reported = rw e tt
 one_fresh x short k h st log fs (inr p) reported =
@@ -95,13 +95,13 @@ fresh law h records seeds steps s o run short k most l at =
 -- ---- a whole log
 
 -- of at most one frame
-one_served : (x : Setting) (short : Bool) (k : ℕ) (h : History) (st : Standing) (log : List Entry) (fs : List Frame) → IsFew fs →
+one_served : (x : Setting) (short : Bool) (k : ℕ) (h : History) (st : Standing) (log : List LogEntry) (fs : List Frame) → IsFew fs →
     AllByRecursion (ReportedUpTo (current_version h)) log → EachAfter IsServedFresh log (serves x short k h st fs).log
 one_served x short k h st log fs (inl e) reported = rw e tt
 one_served x short k h st log fs (inr p) reported =
     rw p.1 (cond_both (is_closed st) _ _ (λ (t : Turn). EachAfter IsServedFresh log t.log) (λ c. tt) (λ c. (reported, tt)))
 
-reports_served : (k : ℕ) (z : Scheme) (c : Call) (reply : Frame) (e : Event) (before : List Entry) → IsServedFresh before (reports k z c reply e)
+reports_served : (k : ℕ) (z : Scheme) (c : Call) (reply : Frame) (e : Event) (before : List LogEntry) → IsServedFresh before (reports k z c reply e)
 reports_served k z call.Idle reply e before = tt
 reports_served k z call.Hello reply e before = tt
 reports_served k z (call.Sync scheme v p) reply e before = tt
@@ -112,13 +112,13 @@ reports_served k z call.Edit reply e before = tt
 reports_served k z call.Append reply e before = tt
 reports_served k z call.Publish reply e before = tt
 
-reacts_served : (k : ℕ) (z : Scheme) (c : Call) (reply : Frame) (r : Reaction) (before : List Entry) → EachAfter IsServedFresh before (reacts k z c reply r)
+reacts_served : (k : ℕ) (z : Scheme) (c : Call) (reply : Frame) (r : Reaction) (before : List LogEntry) → EachAfter IsServedFresh before (reacts k z c reply r)
 reacts_served k z c reply (Asks scheme version part) before = (tt, tt)
 reacts_served k z c reply (Reports e) before = (reports_served k z c reply e before, tt)
 reacts_served k z c reply (Fails fault) before = (tt, tt)
 
 -- a delivery to a client serves no frame
-reported_served : (k : ℕ) (c : ClientState) (fs : List Frame) (before : List Entry) → EachAfter IsServedFresh before (reported_by k c fs)
+reported_served : (k : ℕ) (c : ClientState) (fs : List Frame) (before : List LogEntry) → EachAfter IsServedFresh before (reported_by k c fs)
 reported_served k c [] before = tt
 reported_served k c (f ∷ fs) before =
     let t = reaction_to_reply c f in
@@ -128,25 +128,25 @@ reported_served k c (f ∷ fs) before =
 
 module _ (x : Setting) (seeds : List (List ℕ)) (s : State) (inv : WorldInvariant x seeds s) (so_far : EachAfter IsServedFresh [] s.log) where
   -- entries are added
-  added : (es : List Entry) → EachAfter IsServedFresh s.log es → EachAfter IsServedFresh [] (s.log ++ es)
+  added : (es : List LogEntry) → EachAfter IsServedFresh s.log es → EachAfter IsServedFresh [] (s.log ++ es)
   added es p = each_more IsServedFresh [] s.log es so_far p
 
-  call_served : (k : ℕ) (w : ClientCall) (l : Link) (f : Option CallFault) → EachAfter IsServedFresh [] (call_at s k w l f).log
+  call_served : (k : ℕ) (w : ClientCall) (l : ClientLink) (f : Option CallFault) → EachAfter IsServedFresh [] (call_at s k w l f).log
   call_served k w l (Some fault) = added _ (tt, tt)
   call_served k w l None = added _ (tt, (tt, tt))
 
-  called_served : (w : ClientCall) (k : ℕ) (o : Option Link) → EachAfter IsServedFresh [] (called_at s w k o).log
+  called_served : (w : ClientCall) (k : ℕ) (o : Option ClientLink) → EachAfter IsServedFresh [] (called_at s w k o).log
   called_served w k None = so_far
   called_served w k (Some l) = call_served k w l (call_refusal w l.client)
 
-  delivered : (short : Bool) (k most : ℕ) (o : Option Link) → slice_get s.links k ≡ o → EachAfter IsServedFresh [] (served_at x short s k most o).log
+  delivered : (short : Bool) (k most : ℕ) (o : Option ClientLink) → slice_get s.links k ≡ o → EachAfter IsServedFresh [] (served_at x short s k most o).log
   delivered short k most None at = so_far
   delivered short k most (Some l) at =
       added (turn_of x short k most s.history l).log
       (one_served x short k s.history l.standing s.log (arrived l.up most)
       (few_arrive x s.history (seed_of seeds k) l (inv.links k l at) most) (all_up_to x seeds s.history s.log inv.entries))
 
-  reported : (k most : ℕ) (o : Option Link) → EachAfter IsServedFresh [] (reported_by_course s k most o).log
+  reported : (k most : ℕ) (o : Option ClientLink) → EachAfter IsServedFresh [] (reported_by_course s k most o).log
   reported k most None = so_far
   reported k most (Some l) = added _ (reported_served k l.client (arrived l.down most) s.log)
 

@@ -15,7 +15,7 @@ use Rattle.pir_world.specs.declared.steps.Step.{Step}
 use Rattle.pir_world.specs.declared.steps.Step.TheVariants.{Edit, Append, Publish, Hello, Sync, Ask, ToServer, ToClient}
 use Rattle.pir_world.specs.declared.steps.Outcome.{Outcome}
 use Rattle.pir_world.specs.declared.steps.Outcome.TheVariants.{Edited, EditRefused, Appended, AppendRefused, Published, PublishRefused}
-use Rattle.pir_world.specs.Runs.{State, Link, Entry, Called, Sent, Plain, state_after, called_at, served_at, call_at, with_link, with_history, edit_after, append_after, publish_after, arrived, reader_key, HasBytes, StepsTo, RunsTo}
+use Rattle.pir_world.specs.Runs.{State, ClientLink, LogEntry, Called, Sent, Plain, state_after, called_at, served_at, call_at, with_link, with_history, edit_after, append_after, publish_after, arrived, reader_key, HasBytes, StepsTo, RunsTo}
 use Rattle.pir_world.specs.Earlier.{IsAside, HasEarlier}
 use Rattle.pir_world.specs.Versions.{seed_of}
 use Rattle.pir_world.specs.Headlines.{IsRight}
@@ -30,26 +30,26 @@ use Rattle.pir_world.proofs.Links.{link_called, link_reported, link_served, turn
 
 module _ (x : Setting) (seeds : List (List ℕ)) (s : State) (inv : WorldInvariant x seeds s) where
   -- a client's link is replaced
-  at_one : (k : ℕ) (l m : Link) (h : History) (es : List Entry) → slice_get s.links k ≡ Some l → h ≡ s.history → LinkInvariant x s.history (seed_of seeds k) m →
+  at_one : (k : ℕ) (l m : ClientLink) (h : History) (es : List LogEntry) → slice_get s.links k ≡ Some l → h ≡ s.history → LinkInvariant x s.history (seed_of seeds k) m →
       AllByRecursion (IsRight x seeds s.history) es
       → Logged x seeds s.history k m s.log es → ((j : ℕ) → k ≢ j → AllByRecursion (IsAside j) es) → WorldInvariant x seeds (with_link s h k m es)
   at_one k l m h es at e i right logged aside = rw e (record {
     history = inv.history;
     links = λ j y f. elim (cases_eq j k) [
       | inl same ↦ let P : ℕ → Type 0 = λ n. LinkInvariant x s.history (seed_of seeds n) y in
-          subst P (sym same) (subst (λ (z : Link). LinkInvariant x s.history (seed_of seeds k) z) (replaced j k l m y at same f) i)
+          subst P (sym same) (subst (λ (z : ClientLink). LinkInvariant x s.history (seed_of seeds k) z) (replaced j k l m y at same f) i)
       | inr other ↦ inv.links j y (sym (get_other s.links k j m other) ∙ f)
     ];
     logs = λ j y f. elim (cases_eq j k) [
       | inl same ↦ let P : ℕ → Type 0 = λ n. LogInvariant x s.history (seed_of seeds n) n y (s.log ++ es) in
-          subst P (sym same) (subst (λ (z : Link). LogInvariant x s.history (seed_of seeds k) k z (s.log ++ es)) (replaced j k l m y at same f) logged.kept)
+          subst P (sym same) (subst (λ (z : ClientLink). LogInvariant x s.history (seed_of seeds k) k z (s.log ++ es)) (replaced j k l m y at same f) logged.kept)
       | inr other ↦ log_aside x s.history (seed_of seeds j) j y s.log es (inv.logs j y (sym (get_other s.links k j m other) ∙ f)) (aside j (λ e. other (sym e)))
     ];
     entries = all_append (IsRight x seeds s.history) s.log es inv.entries right;
     earlier = each_more (HasEarlier x seeds s.history) [] s.log es inv.earlier logged.earlier;
   })
     where
-      replaced : (j k : ℕ) (l m y : Link) → slice_get s.links k ≡ Some l → j ≡ k → slice_get (slice_set s.links k m) j ≡ Some y → m ≡ y
+      replaced : (j k : ℕ) (l m y : ClientLink) → slice_get s.links k ≡ Some l → j ≡ k → slice_get (slice_set s.links k m) j ≡ Some y → m ≡ y
       replaced j k l m y at same f =
           let g : Some m ≡ Some y = sym (get_same s.links k m l at) ∙ ap (λ (n : ℕ). slice_get (slice_set s.links k m) n) (sym same) ∙ f in
           cc
@@ -66,12 +66,12 @@ module _ (x : Setting) (seeds : List (List ℕ)) (s : State) (inv : WorldInvaria
   }
 
   -- a call that is accepted
-  abbrev Accepted : ℕ → ClientCall → Link → Type 0
+  abbrev Accepted : ℕ → ClientCall → ClientLink → Type 0
   Accepted k w l =
       let m = link_called w l in
       LinkInvariant x s.history (seed_of seeds k) m × Logged x seeds s.history k m s.log (Called k w None ∷ Sent k (call_frame w l.client) ∷ [])
 
-  call_inv : (k : ℕ) (w : ClientCall) (l : Link) (f : Option CallFault) → slice_get s.links k ≡ Some l → call_refusal w l.client ≡ f
+  call_inv : (k : ℕ) (w : ClientCall) (l : ClientLink) (f : Option CallFault) → slice_get s.links k ≡ Some l → call_refusal w l.client ≡ f
       → (call_refusal w l.client ≡ None → Accepted k w l) → WorldInvariant x seeds (call_at s k w l f)
   call_inv k w l (Some fault) at e called =
       at_one k l l s.history (Called k w (Some fault) ∷ []) at refl (inv.links k l at) (tt, tt)
@@ -79,13 +79,13 @@ module _ (x : Setting) (seeds : List (List ℕ)) (s : State) (inv : WorldInvaria
       (λ j ne. (tt, tt))
   call_inv k w l None at e called = let c = called e in at_one k l (link_called w l) s.history _ at refl c.0 (tt, (tt, tt)) c.1 (λ j ne. (ne, (ne, tt)))
 
-  called_inv : (w : ClientCall) (k : ℕ) (o : Option Link) → slice_get s.links k ≡ o
-      → ((l : Link) → LinkInvariant x s.history (seed_of seeds k) l → LogInvariant x s.history (seed_of seeds k) k l s.log → call_refusal w l.client ≡ None → Accepted k w l) →
+  called_inv : (w : ClientCall) (k : ℕ) (o : Option ClientLink) → slice_get s.links k ≡ o
+      → ((l : ClientLink) → LinkInvariant x s.history (seed_of seeds k) l → LogInvariant x s.history (seed_of seeds k) k l s.log → call_refusal w l.client ≡ None → Accepted k w l) →
       WorldInvariant x seeds (called_at s w k o)
   called_inv w k None at called = inv
   called_inv w k (Some l) at called = call_inv k w l (call_refusal w l.client) at refl (called l (inv.links k l at) (inv.logs k l at))
 
-  served_at_inv : (short : Bool) (k most : ℕ) (o : Option Link) → slice_get s.links k ≡ o → WorldInvariant x seeds (served_at x short s k most o)
+  served_at_inv : (short : Bool) (k most : ℕ) (o : Option ClientLink) → slice_get s.links k ≡ o → WorldInvariant x seeds (served_at x short s k most o)
   served_at_inv short k most None at = inv
   served_at_inv short k most (Some l) at =
       let d = served_inv short most x seeds k s.history (seed_of seeds k) l inv.history (inv.links k l at) in
@@ -94,7 +94,7 @@ module _ (x : Setting) (seeds : List (List ℕ)) (s : State) (inv : WorldInvaria
       (logged_served x seeds s.history k l s.log (inv.logs k l at) short most (inv.links k l at))
       (λ j ne. served_asides j k ne x short _ (arrived l.up most) tt)
 
-  reported_at_inv : RetrievalGivesTheRecord → (k most : ℕ) (o : Option Link) → slice_get s.links k ≡ o → WorldInvariant x seeds (reported_by_course s k most o)
+  reported_at_inv : RetrievalGivesTheRecord → (k most : ℕ) (o : Option ClientLink) → slice_get s.links k ≡ o → WorldInvariant x seeds (reported_by_course s k most o)
   reported_at_inv law k most None at = inv
   reported_at_inv law k most (Some l) at =
       let d = reported_inv law x seeds k s.history l inv.history (inv.links k l at) most in

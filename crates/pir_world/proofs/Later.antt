@@ -23,10 +23,10 @@ use Rattle.client_core.specs.declared.state.Call.TheVariants.{Idle, Hello, Sync,
 use Rattle.client_core.specs.declared.state.Event.{Event}
 use Rattle.client_core.specs.declared.state.Event.TheVariants.{Welcomed, Synced, Retrieved, Unreadable, Stale, Done, Refused}
 use Rattle.pir_world.specs.declared.steps.Outcome.TheVariants.{Published, Reported, Failed}
-use Rattle.pir_world.specs.Runs.{Link, Retrieval, Entry, Served, Ended, Plain}
+use Rattle.pir_world.specs.Runs.{ClientLink, AcceptedAsk, LogEntry, Served, Ended, Plain}
 use Rattle.pir_world.specs.Versions.{HasVersion, IsVersion, HintIs, seed_of}
 use Rattle.pir_world.specs.Headlines.{IsRightEnd, IsRightEvent, IsRight}
-use Rattle.pir_world.specs.Invariants.{AreRecordsOf, GoodHistory, IsKnownOf, KnownIs, CallIs, IsReplyOf, IsReply, InFlight, Phase, LinkInvariant}
+use Rattle.pir_world.specs.Invariants.{AreRecordsOf, GoodHistory, IsKnownOf, KnownIs, CallIs, IsReplyOf, IsReply, InFlight, IsDuringCall, LinkInvariant}
 use Rattle.std.proofs.Math.Seq.{get_or-append_seam}
 use Rattle.digit_pack.proofs.Layouts.{layout_means}
 
@@ -215,8 +215,8 @@ module _ (x : Setting) (h h2 : History) (later : IsLater h h2) where
   flight_later st seed c call up down (inl p) = inl p
   flight_later st seed c call up down (inr p) = inr (p.0, (p.1.0, p.1.1, reply_later st seed (scheme_held c.hint) call p.1.0 p.1.2))
 
-  phase_later : (st : Standing) (seed : List ℕ) (c : ClientState) (call : Call) (up down : List Frame) → Phase x h st seed c call up down →
-      Phase x h2 st seed c call up down
+  phase_later : (st : Standing) (seed : List ℕ) (c : ClientState) (call : Call) (up down : List Frame) → IsDuringCall x h st seed c call up down →
+      IsDuringCall x h2 st seed c call up down
   phase_later st seed c Idle up down p = p
   phase_later st seed c Hello up down p = flight_later st seed c Hello up down p
   phase_later st seed c (Sync scheme v p) up down q = flight_later st seed c (Sync scheme v p) up down q
@@ -227,7 +227,7 @@ module _ (x : Setting) (h h2 : History) (later : IsLater h h2) where
   phase_later st seed c Append up down q = q
   phase_later st seed c Publish up down q = q
 
-  pub link_later : (seed : List ℕ) (l : Link) → LinkInvariant x h seed l → LinkInvariant x h2 seed l
+  pub link_later : (seed : List ℕ) (l : ClientLink) → LinkInvariant x h seed l → LinkInvariant x h2 seed l
   link_later seed l i = record {
     seed_is = i.seed_is;
     profile_is = i.profile_is;
@@ -239,7 +239,7 @@ module _ (x : Setting) (h h2 : History) (later : IsLater h h2) where
     phase = phase_later l.standing seed l.client l.client.call l.up.frames l.down.frames i.phase;
   }
 
-  end_later : (seed : List ℕ) (r : Retrieval) (reply : Frame) (e : Event) → IsRightEnd x h seed r reply e → IsRightEnd x h2 seed r reply e
+  end_later : (seed : List ℕ) (r : AcceptedAsk) (reply : Frame) (e : Event) → IsRightEnd x h seed r reply e → IsRightEnd x h2 seed r reply e
   end_later seed r reply e (inl a) =
       inl (record {
         records = a.records;
@@ -272,7 +272,7 @@ module _ (x : Setting) (h h2 : History) (later : IsLater h h2) where
   event_later (Done v) p = p
   event_later (Refused code) p = tt
 
-  entry_later : (seeds : List (List ℕ)) (e : Entry) → IsRight x seeds h e → IsRight x seeds h2 e
+  entry_later : (seeds : List (List ℕ)) (e : LogEntry) → IsRight x seeds h e → IsRight x seeds h2 e
   entry_later seeds (Served k (Query scheme version words) now reply) p =
       let r = p.2 in
       (p.0, p.1, record { records = r.records; version_is = later _ _ r.version_is; stale = r.stale; answered = r.answered })
@@ -282,7 +282,7 @@ module _ (x : Setting) (h h2 : History) (later : IsLater h h2) where
   entry_later seeds (Plain (Failed k fault)) p = p
   entry_later seeds _ p = tt
 
-  pub entries_later : (seeds : List (List ℕ)) (es : List Entry) → AllByRecursion (IsRight x seeds h) es → AllByRecursion (IsRight x seeds h2) es
+  pub entries_later : (seeds : List (List ℕ)) (es : List LogEntry) → AllByRecursion (IsRight x seeds h) es → AllByRecursion (IsRight x seeds h2) es
   entries_later seeds [] p = tt
   entries_later seeds (e ∷ es) p = (entry_later seeds e p.0, entries_later seeds es p.1)
 

@@ -23,7 +23,7 @@ use Rattle.client_core.specs.Calls.{Ask as ask_call}
 use Rattle.client_core.specs.Replies.{reaction_to_reply}
 use Rattle.client_core.specs.Feeding.{fault_of}
 use Rattle.pir_world.specs.declared.steps.Outcome.TheVariants.{Reported}
-use Rattle.pir_world.specs.Runs.{Link, Turn, Retrieval, Entry, Called, Sent, Served, Ended, Plain, turns, turn_more, reports, reacts}
+use Rattle.pir_world.specs.Runs.{ClientLink, Turn, AcceptedAsk, LogEntry, Called, Sent, Served, Ended, Plain, turns, turn_more, reports, reacts}
 use Rattle.pir_world.specs.Earlier.{AllWithEarlier, IsAside, IsSentLast, IsServedLast, is_ask, asks_of, hint_after, hint_named, IsAsked, HasEarlier}
 use Rattle.pir_world.specs.Versions.{name_of, seed_of}
 use Rattle.pir_world.specs.Invariants.{IsFrom, LogInvariant, EachAfter}
@@ -32,31 +32,31 @@ use Rattle.pir_world.proofs.Later.{IsLater}
 
 -- ---- each entry, with those before it
 
-pub each_more : (P : List Entry → Entry → Type 0) (before es more : List Entry) → EachAfter P before es → EachAfter P (before ++ es) more
+pub each_more : (P : List LogEntry → LogEntry → Type 0) (before es more : List LogEntry) → EachAfter P before es → EachAfter P (before ++ es) more
     → EachAfter P before (es ++ more)
-each_more P before [] more p q = subst (λ (b : List Entry). EachAfter P b more) (append-nil before) q
+each_more P before [] more p q = subst (λ (b : List LogEntry). EachAfter P b more) (append-nil before) q
 each_more P before (e ∷ es) more p q =
-    (p.0, each_more P (before ++ e ∷ []) es more p.1 (subst (λ (b : List Entry). EachAfter P b more) (sym (append_assoc before (e ∷ []) es)) q))
+    (p.0, each_more P (before ++ e ∷ []) es more p.1 (subst (λ (b : List LogEntry). EachAfter P b more) (sym (append_assoc before (e ∷ []) es)) q))
 
-earlier_of : (P : List Entry → Entry → Type 0) (start es : List Entry) → EachAfter P start es → (before after : List Entry) (e : Entry)
+earlier_of : (P : List LogEntry → LogEntry → Type 0) (start es : List LogEntry) → EachAfter P start es → (before after : List LogEntry) (e : LogEntry)
     → es ≡ before ++ e ∷ after → P (start ++ before) e
 earlier_of P start [] p [] after e same = absurd cc
 earlier_of P start [] p (b ∷ bs) after e same = absurd cc
 earlier_of P start (y ∷ ys) p [] after e same =
     let first : y ≡ e = cc in
-    subst (λ (b : List Entry). P b e) (sym (append-nil start)) (subst (λ (z : Entry). P start z) first p.0)
+    subst (λ (b : List LogEntry). P b e) (sym (append-nil start)) (subst (λ (z : LogEntry). P start z) first p.0)
 earlier_of P start (y ∷ ys) p (b ∷ bs) after e same =
     let first : y ≡ b = cc in
     let rest : ys ≡ bs ++ e ∷ after = cc in
-    subst (λ (l : List Entry). P l e) (append_assoc start (b ∷ []) bs)
-    (earlier_of P (start ++ b ∷ []) ys (subst (λ (z : Entry). EachAfter P (start ++ z ∷ []) ys) first p.1) bs after e rest)
+    subst (λ (l : List LogEntry). P l e) (append_assoc start (b ∷ []) bs)
+    (earlier_of P (start ++ b ∷ []) ys (subst (λ (z : LogEntry). EachAfter P (start ++ z ∷ []) ys) first p.1) bs after e rest)
 
-pub all_with_earlier : (P : List Entry → Entry → Type 0) (log : List Entry) → EachAfter P [] log → AllWithEarlier P log
+pub all_with_earlier : (P : List LogEntry → LogEntry → Type 0) (log : List LogEntry) → EachAfter P [] log → AllWithEarlier P log
 all_with_earlier P log p before after e same = earlier_of P [] log p before after e same
 
 -- ---- entries beside a client's
 
-aside_ask : (k : ℕ) (e : Entry) → IsAside k e → is_ask k e ≡ false
+aside_ask : (k : ℕ) (e : LogEntry) → IsAside k e → is_ask k e ≡ false
 aside_ask k (Called j (ask_call i) None) p = ne_eqb j k p
 aside_ask k (Called j (ask_call i) (Some fault)) p = refl
 aside_ask k (Called j want refusal) p = refl
@@ -65,7 +65,7 @@ aside_ask k (Served j f now reply) p = refl
 aside_ask k (Ended j r reply event) p = refl
 aside_ask k (Plain o) p = refl
 
-aside_hint : (k : ℕ) (hint : Option (Scheme × ℕ)) (e : Entry) → IsAside k e → hint_after k hint e ≡ hint
+aside_hint : (k : ℕ) (hint : Option (Scheme × ℕ)) (e : LogEntry) → IsAside k e → hint_after k hint e ≡ hint
 aside_hint k hint (Called j want refusal) p = refl
 aside_hint k hint (Sent j (frame.HintAsk scheme version part)) p = rw (ne_eqb j k p) refl
 aside_hint k hint (Sent j f) p = refl
@@ -76,46 +76,46 @@ aside_hint k hint (Plain (Reported j event)) p = refl
 aside_hint k hint (Plain o) p = refl
 
 -- entries of which none is an accepted ask
-pub no_asks : (k n : ℕ) (es : List Entry) → AllByRecursion (λ e. is_ask k e ≡ false) es → fold (λ a e. a + cond (is_ask k e) 1 0) n es ≡ n
+pub no_asks : (k n : ℕ) (es : List LogEntry) → AllByRecursion (λ e. is_ask k e ≡ false) es → fold (λ a e. a + cond (is_ask k e) 1 0) n es ≡ n
 no_asks k n [] p = refl
 no_asks k n (e ∷ es) p =
     let here : n + cond (is_ask k e) 1 0 ≡ n = rw p.0 (omega arith) in
     ap (λ (m : ℕ). fold (λ a e. a + cond (is_ask k e) 1 0) m es) here ∙ no_asks k n es p.1
 
-pub same_number : (k n : ℕ) (log es : List Entry) → n ≡ asks_of k log → AllByRecursion (λ e. is_ask k e ≡ false) es → n ≡ asks_of k (log ++ es)
+pub same_number : (k n : ℕ) (log es : List LogEntry) → n ≡ asks_of k log → AllByRecursion (λ e. is_ask k e ≡ false) es → n ≡ asks_of k (log ++ es)
 same_number k n log es e p = e ∙ sym (fold-append (λ a e. a + cond (is_ask k e) 1 0) 0 log es ∙ no_asks k (asks_of k log) es p)
 
-asides_ask : (k : ℕ) (es : List Entry) → AllByRecursion (IsAside k) es → AllByRecursion (λ e. is_ask k e ≡ false) es
+asides_ask : (k : ℕ) (es : List LogEntry) → AllByRecursion (IsAside k) es → AllByRecursion (λ e. is_ask k e ≡ false) es
 asides_ask k [] p = tt
 asides_ask k (e ∷ es) p = (aside_ask k e p.0, asides_ask k es p.1)
 
-asides_hint : (k : ℕ) (hint : Option (Scheme × ℕ)) (es : List Entry) → AllByRecursion (IsAside k) es → fold (hint_after k) hint es ≡ hint
+asides_hint : (k : ℕ) (hint : Option (Scheme × ℕ)) (es : List LogEntry) → AllByRecursion (IsAside k) es → fold (hint_after k) hint es ≡ hint
 asides_hint k hint [] p = refl
 asides_hint k hint (e ∷ es) p = ap (λ (n : Option (Scheme × ℕ)). fold (hint_after k) n es) (aside_hint k hint e p.0) ∙ asides_hint k hint es p.1
 
-pub hint_more : (k : ℕ) (log es : List Entry) → hint_named k (log ++ es) ≡ fold (hint_after k) (hint_named k log) es
+pub hint_more : (k : ℕ) (log es : List LogEntry) → hint_named k (log ++ es) ≡ fold (hint_after k) (hint_named k log) es
 hint_more k log es = fold-append (hint_after k) None log es
 
-sent_aside : (k : ℕ) (f : Frame) (first log es : List Entry) → IsSentLast k f first log → AllByRecursion (IsAside k) es → IsSentLast k f first (log ++ es)
+sent_aside : (k : ℕ) (f : Frame) (first log es : List LogEntry) → IsSentLast k f first log → AllByRecursion (IsAside k) es → IsSentLast k f first (log ++ es)
 sent_aside k f first log es s p = record {
   since = s.since ++ es;
-  log_is = ap (λ (l : List Entry). l ++ es) s.log_is ∙ append_assoc first (Sent k f ∷ s.since) es;
+  log_is = ap (λ (l : List LogEntry). l ++ es) s.log_is ∙ append_assoc first (Sent k f ∷ s.since) es;
   aside = all_append (IsAside k) s.since es s.aside p;
 }
 
-served_aside : (k : ℕ) (f r : Frame) (first log es : List Entry) → IsServedLast k f r first log → AllByRecursion (IsAside k) es
+served_aside : (k : ℕ) (f r : Frame) (first log es : List LogEntry) → IsServedLast k f r first log → AllByRecursion (IsAside k) es
     → IsServedLast k f r first (log ++ es)
 served_aside k f r first log es s p = record {
   now = s.now;
   before = s.before;
   since = s.since ++ es;
-  log_is = ap (λ (l : List Entry). l ++ es) s.log_is ∙ append_assoc s.before (Served k f s.now (Some r) ∷ s.since) es;
+  log_is = ap (λ (l : List LogEntry). l ++ es) s.log_is ∙ append_assoc s.before (Served k f s.now (Some r) ∷ s.since) es;
   sent = s.sent;
   aside = all_append (IsAside k) s.since es s.aside p;
 }
 
 -- what the log says of a client is so after entries beside its own
-pub log_aside : (x : Setting) (h : History) (seed : List ℕ) (k : ℕ) (l : Link) (log es : List Entry) → LogInvariant x h seed k l log
+pub log_aside : (x : Setting) (h : History) (seed : List ℕ) (k : ℕ) (l : ClientLink) (log es : List LogEntry) → LogInvariant x h seed k l log
     → AllByRecursion (IsAside k) es → LogInvariant x h seed k l (log ++ es)
 log_aside x h seed k l log es i p = record {
   number = same_number k l.client.number log es i.number (asides_ask k es p);
@@ -125,7 +125,7 @@ log_aside x h seed k l log es i p = record {
 }
 
 -- and where only the ends of the wires differ
-pub log_same : (x : Setting) (h : History) (seed : List ℕ) (k : ℕ) (l m : Link) (log : List Entry) → m.client ≡ l.client → m.up.frames ≡ l.up.frames
+pub log_same : (x : Setting) (h : History) (seed : List ℕ) (k : ℕ) (l m : ClientLink) (log : List LogEntry) → m.client ≡ l.client → m.up.frames ≡ l.up.frames
     → m.down.frames ≡ l.down.frames → LogInvariant x h seed k l log → LogInvariant x h seed k m log
 log_same x h seed k l m log c u d i = record {
   number = ap (λ (y : ClientState). y.number) c ∙ i.number;
@@ -171,7 +171,7 @@ module _ (j k : ℕ) (ne : k ≢ j) where
 -- ---- a later history
 
 module _ (x : Setting) (h h2 : History) (later : IsLater h h2) where
-  asked_later : (seed : List ℕ) (k : ℕ) (r : Retrieval) (query : Frame) (log : List Entry) → IsAsked x h seed k r query log → IsAsked x h2 seed k r query log
+  asked_later : (seed : List ℕ) (k : ℕ) (r : AcceptedAsk) (query : Frame) (log : List LogEntry) → IsAsked x h seed k r query log → IsAsked x h2 seed k r query log
   asked_later seed k r query log a = record {
     before = a.before;
     log_is = a.log_is;
@@ -182,7 +182,7 @@ module _ (x : Setting) (h h2 : History) (later : IsLater h h2) where
     query_is = a.query_is;
   }
 
-  earlier_later : (seeds : List (List ℕ)) (before : List Entry) (e : Entry) → HasEarlier x seeds h before e → HasEarlier x seeds h2 before e
+  earlier_later : (seeds : List (List ℕ)) (before : List LogEntry) (e : LogEntry) → HasEarlier x seeds h before e → HasEarlier x seeds h2 before e
   earlier_later seeds before (Sent k (frame.Query scheme version words)) p = (p.0, asked_later (seed_of seeds k) k p.0 _ before p.1)
   earlier_later seeds before (Sent k (frame.Hello profile key)) p = p
   earlier_later seeds before (Sent k (frame.HintAsk scheme version part)) p = p
@@ -196,11 +196,11 @@ module _ (x : Setting) (h h2 : History) (later : IsLater h h2) where
   earlier_later seeds before (Plain (Reported k event)) p = p
   earlier_later seeds before (Plain o) p = tt
 
-  pub each_later : (seeds : List (List ℕ)) (before es : List Entry) → EachAfter (HasEarlier x seeds h) before es → EachAfter (HasEarlier x seeds h2) before es
+  pub each_later : (seeds : List (List ℕ)) (before es : List LogEntry) → EachAfter (HasEarlier x seeds h) before es → EachAfter (HasEarlier x seeds h2) before es
   each_later seeds before [] p = tt
   each_later seeds before (e ∷ es) p = (earlier_later seeds before e p.0, each_later seeds (before ++ e ∷ []) es p.1)
 
-  from_later : (seed : List ℕ) (k : ℕ) (z : Scheme) (call : Call) (f : Frame) (first : List Entry) → IsFrom x h seed k z call f first → IsFrom x h2 seed k z call f first
+  from_later : (seed : List ℕ) (k : ℕ) (z : Scheme) (call : Call) (f : Frame) (first : List LogEntry) → IsFrom x h seed k z call f first → IsFrom x h2 seed k z call f first
   from_later seed k z (Ask i v n) f first p = asked_later seed k _ f first p
   from_later seed k z Idle f first p = tt
   from_later seed k z Hello f first p = tt
@@ -211,7 +211,7 @@ module _ (x : Setting) (h h2 : History) (later : IsLater h h2) where
   from_later seed k z Append f first p = tt
   from_later seed k z Publish f first p = tt
 
-  pub log_later : (seed : List ℕ) (k : ℕ) (l : Link) (log : List Entry) → LogInvariant x h seed k l log → LogInvariant x h2 seed k l log
+  pub log_later : (seed : List ℕ) (k : ℕ) (l : ClientLink) (log : List LogEntry) → LogInvariant x h seed k l log → LogInvariant x h2 seed k l log
   log_later seed k l log i = record {
     number = i.number;
     hint = i.hint;

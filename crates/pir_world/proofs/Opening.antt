@@ -12,7 +12,7 @@ use Rattle.frame_codec.specs.declared.frame.Frame.{Frame}
 use Rattle.snapshot_file.specs.declared.snapshot.Header.{Header}
 use Rattle.snapshot_file.specs.Snapshots.{shape_of}
 use Rattle.version_store.specs.Histories.{current_version}
-use Rattle.pir_world.specs.Runs.{Link, opening, setting_in, fresh_link}
+use Rattle.pir_world.specs.Runs.{ClientLink, opening, setting_in, fresh_link}
 use Rattle.pir_world.specs.Versions.{seed_of}
 use Rattle.pir_world.specs.Earlier.{HasEarlier}
 use Rattle.pir_world.specs.Headlines.{IsOpening, is_sound, EveryRunIsRight}
@@ -35,7 +35,7 @@ only_one : {X : Type 0} (r s : X) (i : ℕ) → slice_get (r ∷ []) i ≡ Some 
 only_one r s zero e = cc
 only_one r s (suc i) e = absurd cc
 
-link_of : (wide : Bool) (seeds : List (List ℕ)) (k : ℕ) (l : Link) → slice_get (map (fresh_link wide) seeds) k ≡ Some l → fresh_link wide (seed_of seeds k) ≡ l
+link_of : (wide : Bool) (seeds : List (List ℕ)) (k : ℕ) (l : ClientLink) → slice_get (map (fresh_link wide) seeds) k ≡ Some l → fresh_link wide (seed_of seeds k) ≡ l
 link_of wide [] k l e = absurd cc
 link_of wide (s ∷ seeds) zero l e = cc
 link_of wide (s ∷ seeds) (suc k) l e = link_of wide seeds k l e
@@ -78,9 +78,9 @@ opening_inv h bytes seeds o =
         draft = all;
         growing = (omega arith, tt);
       };
-      links = λ k l e. subst (λ (m : Link). LinkInvariant (setting_in h) (opening h bytes seeds).history (seed_of seeds k) m) (link_of (is_wide h.form) seeds k l e)
+      links = λ k l e. subst (λ (m : ClientLink). LinkInvariant (setting_in h) (opening h bytes seeds).history (seed_of seeds k) m) (link_of (is_wide h.form) seeds k l e)
           (record { seed_is = refl; profile_is = asked_accepted (is_wide h.form) (h.form == 1) (h.form == 129); alive = refl; unclosed = refl; known = tt; hint = tt; call = tt; phase = (refl, refl) });
-      logs = λ k l e. subst (λ (m : Link). LogInvariant (setting_in h) (opening h bytes seeds).history (seed_of seeds k) k m []) (link_of (is_wide h.form) seeds k l e)
+      logs = λ k l e. subst (λ (m : ClientLink). LogInvariant (setting_in h) (opening h bytes seeds).history (seed_of seeds k) k m []) (link_of (is_wide h.form) seeds k l e)
           (record {
             number = refl;
             hint = refl;

@@ -27,7 +27,7 @@ use Rattle.client_core.specs.Feeding.{takes_all, events_of, fault_of}
 use Rattle.frame_codec.specs.Frames.{IsFrame, encoding}
 use Rattle.pir_world.specs.declared.steps.Outcome.{Outcome}
 use Rattle.pir_world.specs.declared.steps.Outcome.TheVariants.{Reported, CallRefused}
-use Rattle.pir_world.specs.Runs.{State, Link, Turn, turns, turn_more, sent, with_history, Entry, Called, Sent, Plain, arrived, reacts, reports, outcomes_of, outcome_of, called_at, served_at}
+use Rattle.pir_world.specs.Runs.{State, ClientLink, Turn, turns, turn_more, sent, with_history, LogEntry, Called, Sent, Plain, arrived, reacts, reports, outcomes_of, outcome_of, called_at, served_at}
 use Rattle.pir_schemes.specs.Laws.{RetrievalGivesTheRecord}
 use Rattle.pir_world.specs.Versions.{seed_of}
 use Rattle.pir_world.specs.Invariants.{WorldInvariant, LinkInvariant}
@@ -48,12 +48,12 @@ use Rattle.pir_world.proofs.Links.{link_reported, link_served, link_called, turn
 -- a client's end has its session and its link
 pub record Met (x : Setting) (core : Core) (k : ℕ) (e : Side) (s : State) : Type 0 where
   pub session : Session
-  pub link : Link
+  pub link : ClientLink
   pub session_is : session_of core.sessions k ≡ Some session
   pub link_is : slice_get s.links k ≡ Some link
   pub end_is : EndIs (is_wide_setting x) e session link
 
-met_at : (wide : Bool) (e : Side) (o : Option Session) (l : Option Link) → Matched wide (Some e) o l → (y : Session) × (m : Link) × (o ≡ Some y) × (l ≡ Some m) × EndIs wide e y m
+met_at : (wide : Bool) (e : Side) (o : Option Session) (l : Option ClientLink) → Matched wide (Some e) o l → (y : Session) × (m : ClientLink) × (o ≡ Some y) × (l ≡ Some m) × EndIs wide e y m
 met_at wide e None l p = absurd p
 met_at wide e (Some y) None p = absurd p
 met_at wide e (Some y) (Some m) p = (y, m, refl, refl, p)
@@ -66,7 +66,7 @@ met x core ends os s k e p at =
     record { session = q.0; link = q.1; session_is = q.2; link_is = q.3; end_is = q.4 }
 
 -- one end, its session and its link are replaced
-one_replaced : (x : Setting) (core core2 : Core) (ends : List Side) (os : List Outcome) (s : State) (k : ℕ) (e e2 : Side) (l l2 : Link) (y2 : Session) →
+one_replaced : (x : Setting) (core core2 : Core) (ends : List Side) (os : List Outcome) (s : State) (k : ℕ) (e e2 : Side) (l l2 : ClientLink) (y2 : Session) →
     Implements x core ends os s → slice_get ends k ≡ Some e → slice_get s.links k ≡ Some l
     → session_of core2.sessions k ≡ Some y2 → ((other : ℕ) → other ≢ k → session_of core2.sessions other ≡ session_of core.sessions other) → EndIs (is_wide_setting x) e2 y2 l2
     → (j : ℕ) → Matched (is_wide_setting x) (slice_get (slice_set ends k e2) j) (session_of core2.sessions j) (slice_get (slice_set s.links k l2) j)
@@ -98,7 +98,7 @@ one_reported : (k : ℕ) (c : ClientState) (r : Frame) → fault_of (reaction_to
     outcomes_of (reported_by k c (r ∷ [])) ≡ map (Reported k) (takes_all c (r ∷ [])).events
 one_reported k c r e =
     ap (λ (b : Bool). outcomes_of (reacts k (scheme_held c.hint) c.call r (reaction_to_reply c r).reaction ++ cond b [] [])) (ap is_some e)
-    ∙ ap (λ (es : List Entry). outcomes_of es) (append-nil (reacts k (scheme_held c.hint) c.call r (reaction_to_reply c r).reaction))
+    ∙ ap (λ (es : List LogEntry). outcomes_of es) (append-nil (reacts k (scheme_held c.hint) c.call r (reaction_to_reply c r).reaction))
     ∙ reacts_events k (scheme_held c.hint) c.call r (reaction_to_reply c r).reaction e
 
 few_reported : (k : ℕ) (c : ClientState) (fs : List Frame) → IsFew fs → (takes_all c fs).fault ≡ None →
@@ -108,7 +108,7 @@ few_reported k c fs (inr p) good =
     let g : (takes_all c (p.0 ∷ [])).fault ≡ None = subst (λ (f : List Frame). (takes_all c f).fault ≡ None) p.1 good in
     subst (λ (f : List Frame). outcomes_of (reported_by k c f) ≡ map (Reported k) (takes_all c f).events) (sym p.1) (one_reported k c p.0 g)
 
-outcomes_more : (log es : List Entry) (os more : List Outcome) → os ≡ outcomes_of log → outcomes_of es ≡ more → os ++ more ≡ outcomes_of (log ++ es)
+outcomes_more : (log es : List LogEntry) (os more : List Outcome) → os ≡ outcomes_of log → outcomes_of es ≡ more → os ++ more ≡ outcomes_of (log ++ es)
 outcomes_more log es os more a b = rw (a, ← b) (sym (flat_map-append outcome_of log es))
 
 -- what the server does tells no outcome
@@ -178,7 +178,7 @@ module _ (x : Setting) (core : Core) (ends : List Side) (os : List Outcome) (s :
   refused None = []
   refused (Some fault) = CallRefused k fault ∷ []
 
-  accepted_end : (w : ClientCall) (session : Session) (l : Link) → EndIs (is_wide_setting x) e session l → accepts_profile x.plan l.client.profile ≡ true → (bytes : List ℕ) → Accepts e.client.state w e2.client.state bytes →
+  accepted_end : (w : ClientCall) (session : Session) (l : ClientLink) → EndIs (is_wide_setting x) e session l → accepts_profile x.plan l.client.profile ≡ true → (bytes : List ℕ) → Accepts e.client.state w e2.client.state bytes →
       e2.client.reader ≡ e.client.reader → e2.up ≡ e.up ++ bytes → e2.down ≡ e.down
       → (call_refusal w l.client ≡ None) × EndIs (is_wide_setting x) e2 session (link_called w l)
   accepted_end w session l i profile bytes a reader up down =

@@ -7,17 +7,17 @@ use Rattle.client_core.specs.States.{scheme_held}
 use Rattle.client_core.specs.Replies.{AfterReply, reaction_to_reply}
 use Rattle.client_core.specs.Feeding.{Course, start, course_after_reply, course_more, runs, takes_all, sends_of, fault_of}
 use Rattle.client_core.proofs.Courses.{fault_stays}
-use Rattle.pir_world.specs.Runs.{State, Link, Entry, Receipt, receives, reacts, arrived, beyond, sent, with_link, received_at}
+use Rattle.pir_world.specs.Runs.{State, ClientLink, LogEntry, Receipt, receives, reacts, arrived, beyond, sent, with_link, received_at}
 
 -- what client k reports and sends at replies, one after another, up to a fault
-abbrev pub reported_by : ℕ → ClientState → List Frame → List Entry
+abbrev pub reported_by : ℕ → ClientState → List Frame → List LogEntry
 reported_by k c [] = []
 reported_by k c (f ∷ fs) =
     reacts k (scheme_held c.hint) c.call f (reaction_to_reply c f).reaction ++ cond (is_some (fault_of (reaction_to_reply c f).reaction)) []
     (reported_by k (reaction_to_reply c f).state fs)
 
 -- a delivery to client k, by the course that its core takes
-abbrev pub reported_by_course : State → ℕ → ℕ → Option Link → State
+abbrev pub reported_by_course : State → ℕ → ℕ → Option ClientLink → State
 reported_by_course s k most None = s
 reported_by_course s k most (Some l) =
     let fs = arrived l.down most in
@@ -76,7 +76,7 @@ runs_from k (f ∷ fs) none =
 abbrev by_course : ℕ → ClientState → List Frame → Receipt
 by_course k c fs = record { client = (takes_all c fs).state; sends = (takes_all c fs).sends; log = reported_by k c fs }
 
-same_receipt : (c d : ClientState) (ss ts : List Frame) (es gs : List Entry) → c ≡ d → ss ≡ ts → es ≡ gs →
+same_receipt : (c d : ClientState) (ss ts : List Frame) (es gs : List LogEntry) → c ≡ d → ss ≡ ts → es ≡ gs →
     ◌≡◌ {A = Receipt} (record { client = c; sends = ss; log = es }) (record { client = d; sends = ts; log = gs })
 same_receipt c d ss ts es gs a b e = cc
 
@@ -84,7 +84,7 @@ module _ (k : ℕ) (c : ClientState) (f : Frame) (fs : List Frame) where
   abbrev reply : AfterReply
   reply = reaction_to_reply c f
 
-  abbrev written : List Entry
+  abbrev written : List LogEntry
   written = reacts k (scheme_held c.hint) c.call f reply.reaction
 
   abbrev from_start : Course
@@ -118,7 +118,7 @@ received k c [] = refl
 received k c (f ∷ fs) =
     received_by k c f fs (received k (reaction_to_reply c f).state fs) (fault_of (reaction_to_reply c f).reaction) refl
 
-pub receipt_at : (s : State) (k most : ℕ) (o : Option Link) → received_at s k most o ≡ reported_by_course s k most o
+pub receipt_at : (s : State) (k most : ℕ) (o : Option ClientLink) → received_at s k most o ≡ reported_by_course s k most o
 receipt_at s k most None = refl
 receipt_at s k most (Some l) =
     ap (λ (t : Receipt). with_link s s.history k (record l { client = t.client; up = sent l.up t.sends; down = beyond l.down most }) t.log)

@@ -14,7 +14,7 @@ use Rattle.frame_codec.specs.declared.frame.Frame.TheVariants as frame
 use Rattle.version_store.specs.Histories.{History, changes_since, current_version, delta_rows, entries_between, reaches_olds, records_of}
 use Rattle.server_core.specs.declared.standing.Standing.{Standing}
 use Rattle.server_core.specs.declared.standing.Standing.TheVariants.{Reader}
-use Rattle.server_core.specs.Serving.{Setting, AfterFrame, changes_asked, is_closed, is_wide_setting, most_entry_bytes, is_reader_key, has_part, hint_words, words_asked, no_delta, delta_asked}
+use Rattle.server_core.specs.Serving.{Setting, AfterFrame, changes_asked, is_closed, is_wide_setting, most_entry_bytes, is_reader_key, has_part, hint_words, words_asked, no_delta_given, delta_asked}
 use Rattle.server_core.proofs.Granted.{delta_granted, changes_granted}
 use Rattle.client_core.specs.declared.state.ClientState.{ClientState}
 use Rattle.client_core.specs.declared.state.ServerInfo.{ServerInfo}
@@ -23,10 +23,10 @@ use Rattle.client_core.specs.declared.state.Hint.{Hint}
 use Rattle.client_core.specs.declared.state.Call.TheVariants.{Idle, Hello, Sync, Delta, Changes, Ask, Edit, Append, Publish}
 use Rattle.client_core.specs.States.{scheme_held}
 use Rattle.client_core.specs.Calls.{call_words}
-use Rattle.pir_world.specs.Runs.{Turn, Retrieval, Served, served_or, serves, reader_key}
+use Rattle.pir_world.specs.Runs.{Turn, AcceptedAsk, Served, served_or, serves, reader_key}
 use Rattle.pir_world.specs.Versions.{HasVersion, IsVersion, HintIs, asked_words}
 use Rattle.pir_world.specs.Headlines.{IsRightReply, IsRight}
-use Rattle.pir_world.specs.Invariants.{GoodHistory, IsKnownOf, KnownIs, SyncIs, AskIs, CallIs, IsReply, outstanding_frame, InFlight, Phase}
+use Rattle.pir_world.specs.Invariants.{GoodHistory, IsKnownOf, KnownIs, SyncIs, AskIs, CallIs, IsReply, outstanding_frame, InFlight, IsDuringCall}
 use Rattle.pir_world.proofs.Later.{newest, one_version, records_at}
 use Rattle.hint_changes.specs.Changes.{changes_between}
 use Rattle.record_log.specs.OldRecords.{entries_bytes}
@@ -137,7 +137,7 @@ module _ (x : Setting) (h : History) (seed : List ℕ) (z s : Scheme) (v p : ℕ
 -- ---- the rows that changed
 
 module _ (x : Setting) (h : History) (g : GoodHistory x h) (seed : List ℕ) (z : Scheme) (since : ℕ) (before : List (List ℕ)) (there : HasVersion h since before) where
-  no_rows : Replied x h seed Reader z (Delta since) (frame.DeltaAsk since) (no_delta Reader h)
+  no_rows : Replied x h seed Reader z (Delta since) (frame.DeltaAsk since) (no_delta_given Reader h)
   no_rows = record {
     history_is = refl;
     unclosed = refl;
@@ -187,7 +187,7 @@ module _ (x : Setting) (h : History) (g : GoodHistory x h) (seed : List ℕ) (z 
 
 module _ (x : Setting) (h : History) (g : GoodHistory x h) (seed : List ℕ) (z : Scheme) (since : ℕ) (before : List (List ℕ)) (there : HasVersion h since before)
     (wide : is_wide_setting x ≡ true) where
-  no_changes : Replied x h seed Reader z (Changes since) (frame.ChangesAsk since) (no_delta Reader h)
+  no_changes : Replied x h seed Reader z (Changes since) (frame.ChangesAsk since) (no_delta_given Reader h)
   no_changes = record {
     history_is = refl;
     unclosed = refl;
@@ -247,7 +247,7 @@ module _ (x : Setting) (h : History) (g : GoodHistory x h) (seed : List ℕ) (z 
 -- ---- a query
 
 -- the words of a client's query, where what it knows is the version's
-pub asked_is : (x : Setting) (h : History) (y : ServerInfo) (records : List (List ℕ)) (seed : List ℕ) (r : Retrieval) → IsKnownOf x h y →
+pub asked_is : (x : Setting) (h : History) (y : ServerInfo) (records : List (List ℕ)) (seed : List ℕ) (r : AcceptedAsk) → IsKnownOf x h y →
     HasVersion h y.version records →
     call_words (Some y) r.scheme seed r.number r.index ≡ asked_words x.plan records seed r
 asked_is x h y records seed r k p =
@@ -255,7 +255,7 @@ asked_is x h y records seed r k p =
     rw (k.plan_is, k.count_is, same) refl
 
 module _ (x : Setting) (h : History) (seed : List ℕ) (i : ℕ) (s : Scheme) (v n : ℕ) (records : List (List ℕ)) (there : HasVersion h v records) where
-  abbrev retrieval : Retrieval
+  abbrev retrieval : AcceptedAsk
   retrieval = record { index = i; scheme = s; version = v; number = n }
 
   words_fit : (length (asked_words x.plan records seed retrieval) == words_asked x s records) ≡ true
@@ -326,16 +326,16 @@ pub record ServedLink (x : Setting) (seeds : List (List ℕ)) (h : History) (see
   pub history_is : t.history ≡ h
   pub unclosed : is_closed t.standing ≡ false
   pub reader : st ≡ Reader → t.standing ≡ Reader
-  pub phase : Phase x h t.standing seed c call up down
+  pub phase : IsDuringCall x h t.standing seed c call up down
   pub right : AllByRecursion (IsRight x seeds h) t.log
 
 module _ (x : Setting) (seeds : List (List ℕ)) (k : ℕ) (h : History) (seed : List ℕ) (st : Standing) (c : ClientState) where
-  nothing_comes : (short : Bool) (call : Call) (fs up down : List Frame) → is_closed st ≡ false → fs ≡ [] → Phase x h st seed c call up down
+  nothing_comes : (short : Bool) (call : Call) (fs up down : List Frame) → is_closed st ≡ false → fs ≡ [] → IsDuringCall x h st seed c call up down
       → ServedLink x seeds h seed st c call (serves x short k h st fs) up (down ++ (serves x short k h st fs).replies)
   nothing_comes short call fs up down o e p = rw e (record { history_is = refl; unclosed = o; reader = λ x. x; phase = rw append-nil p; right = tt })
 
   flight_phase : (s : Standing) (call : Call) (up down : List Frame) (r : Frame) → up ≡ [] → down ≡ r ∷ [] → IsReply x h s seed (scheme_held c.hint) call r →
-      Phase x h s seed c call up down
+      IsDuringCall x h s seed c call up down
   flight_phase s Idle up down r e d p = absurd p
   flight_phase s Hello up down r e d p = inr (e, (r, d, p))
   flight_phase s (Sync scheme v q) up down r e d p = inr (e, (r, d, p))
@@ -359,7 +359,7 @@ module _ (x : Setting) (seeds : List (List ℕ)) (k : ℕ) (h : History) (seed :
 
   served_flight : (short : Bool) (call : Call) (up fs up2 down : List Frame) → Split up fs up2 → is_closed st ≡ false
       → Replied x h seed st (scheme_held c.hint) call (outstanding_frame c call) (served_or short x h st (outstanding_frame c call)) → InFlight x h st seed c call up down →
-      Phase x h st seed c call up down
+      IsDuringCall x h st seed c call up down
       → ServedLink x seeds h seed st c call (serves x short k h st fs) up2 (down ++ (serves x short k h st fs).replies)
   served_flight short call up fs up2 down (inl a) o r p ph = nothing_comes short call fs up2 down o a.0 (rw a.1 ph)
   served_flight short call up fs up2 down (inr a) o r (inl p) ph = frame_comes short call fs up2 down o (a.0 ∙ p.0) a.1 p.1 r
@@ -380,7 +380,7 @@ module _ (x : Setting) (seeds : List (List ℕ)) (k : ℕ) (h : History) (seed :
   ask_words j scheme v n s known hint i =
       let y = known_is c.known i.k known i.known_is in
       let there = hint_version c.hint i.hint v hint i.hint_is i.version_is in
-      let r : Retrieval = record { index = j; scheme = scheme; version = v; number = n } in
+      let r : AcceptedAsk = record { index = j; scheme = scheme; version = v; number = n } in
       let w : call_words c.known scheme c.seed n j ≡ asked_words x.plan there.0 seed r =
       ap (λ (o : Option ServerInfo). call_words o scheme c.seed n j) i.known_is
       ∙ asked_is x h i.k there.0 c.seed r y.1 (subst (λ (m : ℕ). HasVersion h m there.0) (sym i.asked) there.1)
@@ -421,7 +421,7 @@ module _ (x : Setting) (seeds : List (List ℕ)) (k : ℕ) (h : History) (seed :
   -- what the server makes of the frames that come of a link, which are none or all
   pub served_link : GoodHistory x h → (short : Bool) (call : Call) (up fs up2 down : List Frame) → Split up fs up2 → is_closed st ≡ false → c.seed ≡ seed → accepts_profile x.plan c.profile ≡ true →
       KnownIs x h st c.known → HintIs x h c.hint → CallIs x h c call
-      → Phase x h st seed c call up down → ServedLink x seeds h seed st c call (serves x short k h st fs) up2 (down ++ (serves x short k h st fs).replies)
+      → IsDuringCall x h st seed c call up down → ServedLink x seeds h seed st c call (serves x short k h st fs) up2 (down ++ (serves x short k h st fs).replies)
   served_link g short Idle up fs up2 down (inl a) o s asked known hint i p = nothing_comes short Idle fs up2 down o a.0 (a.1 ∙ p.0, p.1)
   served_link g short Idle up fs up2 down (inr a) o s asked known hint i p = nothing_comes short Idle fs up2 down o (a.0 ∙ p.0) (a.1, p.1)
   served_link g short Hello up fs up2 down a o s asked known hint i p =

@@ -22,9 +22,9 @@ use Rattle.client_core.specs.Feeding.{sends_of, takes_all, fault_of}
 use Rattle.client_core.specs.Shapes.{outline}
 use Rattle.pir_world.specs.Runs.{
   State,
-  Link,
+  ClientLink,
   Wire,
-  Entry,
+  LogEntry,
   Called,
   Sent,
   arrived,
@@ -47,13 +47,13 @@ use Rattle.pir_world.proofs.ShapesClients.{IsCallLike, IsReaders, called_outline
 
 -- ---- states
 
-pub record IsLinkLike (l m : Link) : Type 0 where
+pub record IsLinkLike (l m : ClientLink) : Type 0 where
   pub outlined : outline l.client ≡ outline m.client
   pub standing : m.standing ≡ l.standing
   pub up : IsWireLike l.up m.up
   pub down : IsWireLike l.down m.down
 
-abbrev pub AreBothLike : Option Link → Option Link → Type 0
+abbrev pub AreBothLike : Option ClientLink → Option ClientLink → Type 0
 AreBothLike None None = Unit {0}
 AreBothLike (Some l) (Some m) = IsLinkLike l m
 AreBothLike _ _ = ⊥
@@ -63,7 +63,7 @@ pub record IsStateLike (s t : State) : Type 0 where
   pub links : (k : ℕ) → AreBothLike (slice_get s.links k) (slice_get t.links k)
   pub logs : HaveEqualSights s.log t.log
 
-set_like : (xs ys : List Link) (k : ℕ) (l m l2 m2 : Link) → slice_get xs k ≡ Some l → slice_get ys k ≡ Some m
+set_like : (xs ys : List ClientLink) (k : ℕ) (l m l2 m2 : ClientLink) → slice_get xs k ≡ Some l → slice_get ys k ≡ Some m
     → ((j : ℕ) → AreBothLike (slice_get xs j) (slice_get ys j)) → IsLinkLike l2 m2
     → (j : ℕ) → AreBothLike (slice_get (slice_set xs k l2) j) (slice_get (slice_set ys k m2) j)
 set_like xs ys k l m l2 m2 at at2 a e j = elim (cases_eq j k) [
@@ -82,7 +82,7 @@ frames_same fs gs e = subst (λ (y : List Frame). AreFramesLike fs y) e (frames_
 wire_itself : (w : Wire) → IsWireLike w w
 wire_itself w = record { frames = frames_itself w.frames; got = refl }
 
-both_itself : (o : Option Link) → AreBothLike o o
+both_itself : (o : Option ClientLink) → AreBothLike o o
 both_itself None = tt
 both_itself (Some l) = record { outlined = refl; standing = refl; up = wire_itself l.up; down = wire_itself l.down }
 
@@ -109,7 +109,7 @@ reacts_equal : (k : ℕ) (y z : Scheme) (q q2 : Call) (f g : Frame) (r r2 : Reac
 reacts_equal k y z q q2 f g r r2 e j =
     reacts_shown j k y q f r ∙ ap (λ (fs : List Frame). flat_map (sights j) (map (λ (u : Frame). Sent k u) fs)) e ∙ sym (reacts_shown j k z q2 g r2)
 
-abbrev none_or : Bool → List Entry
+abbrev none_or : Bool → List LogEntry
 none_or b = cond b [] []
 
 nothing_equal : (b d : Bool) → HaveEqualSights (none_or b) (none_or d)
@@ -155,11 +155,11 @@ few_arrive w most few = of_split (split_few w most few)
 -- ---- a link's steps
 
 -- at two links whose clients differ in indices and words alone, two calls are refused alike
-abbrev pub IsRefusedLike : ClientCall → ClientCall → Option Link → Option Link → Type 0
-IsRefusedLike v w o o2 = (l m : Link) → o ≡ Some l → o2 ≡ Some m → outline l.client ≡ outline m.client → call_refusal v l.client ≡ call_refusal w m.client
+abbrev pub IsRefusedLike : ClientCall → ClientCall → Option ClientLink → Option ClientLink → Type 0
+IsRefusedLike v w o o2 = (l m : ClientLink) → o ≡ Some l → o2 ≡ Some m → outline l.client ≡ outline m.client → call_refusal v l.client ≡ call_refusal w m.client
 
 module _ (s t : State) (a : IsStateLike s t) (k : ℕ) where
-  replaced : (l m l2 m2 : Link) (h h2 : History) (es gs : List Entry)
+  replaced : (l m l2 m2 : ClientLink) (h h2 : History) (es gs : List LogEntry)
       → slice_get s.links k ≡ Some l → slice_get t.links k ≡ Some m → h2 ≡ h → IsLinkLike l2 m2 → HaveEqualSights es gs
       → IsStateLike (with_link s h k l2 es) (with_link t h2 k m2 gs)
   replaced l m l2 m2 h h2 es gs at at2 e b logs = record {
@@ -168,7 +168,7 @@ module _ (s t : State) (a : IsStateLike s t) (k : ℕ) where
     logs = equal_append s.log t.log es gs a.logs logs;
   }
 
-  call_like : (v w : ClientCall) (l m : Link) (f : Option CallFault)
+  call_like : (v w : ClientCall) (l m : ClientLink) (f : Option CallFault)
       → slice_get s.links k ≡ Some l → slice_get t.links k ≡ Some m → IsLinkLike l m → IsReaders v → IsCallLike v w
       → IsStateLike (call_at s k v l f) (call_at t k w m f)
   call_like v w l m (Some fault) at at2 b r e = replaced l m l m s.history t.history _ _ at at2 a.history b (λ j. refl)
@@ -183,7 +183,7 @@ module _ (s t : State) (a : IsStateLike s t) (k : ℕ) where
       })
       (called_equal k v w _ _ f)
 
-  pub called_like : (v w : ClientCall) (o o2 : Option Link) → slice_get s.links k ≡ o → slice_get t.links k ≡ o2 → AreBothLike o o2 → IsReaders v → IsCallLike v w
+  pub called_like : (v w : ClientCall) (o o2 : Option ClientLink) → slice_get s.links k ≡ o → slice_get t.links k ≡ o2 → AreBothLike o o2 → IsReaders v → IsCallLike v w
       → IsRefusedLike v w o o2
       → IsStateLike (called_at s v k o) (called_at t w k o2)
   called_like v w None None at at2 b r e same = a
@@ -194,7 +194,7 @@ module _ (s t : State) (a : IsStateLike s t) (k : ℕ) where
   called_like v w None (Some m) at at2 b r e same = absurd b
   called_like v w (Some l) None at at2 b r e same = absurd b
 
-  pub served_like : (x : Setting) (most : ℕ) (o o2 : Option Link) → slice_get s.links k ≡ o → slice_get t.links k ≡ o2 → AreBothLike o o2
+  pub served_like : (x : Setting) (most : ℕ) (o o2 : Option ClientLink) → slice_get s.links k ≡ o → slice_get t.links k ≡ o2 → AreBothLike o o2
       → IsStateLike (served_at x false s k most o) (served_at x false t k most o2)
   served_like x most None None at at2 b = a
   served_like x most (Some l) (Some m) at at2 b =
@@ -211,15 +211,15 @@ module _ (s t : State) (a : IsStateLike s t) (k : ℕ) where
       })
       turned.log
     where
-      at_start : (l m : Link) → IsLinkLike l m
+      at_start : (l m : ClientLink) → IsLinkLike l m
           → IsTurnLike (record { history = s.history; standing = l.standing; replies = []; log = [] })
           (record { history = t.history; standing = m.standing; replies = []; log = [] })
       at_start l m b = record { history = a.history; standing = b.standing; replies = tt; log = λ j. refl }
   served_like x most None (Some m) at at2 b = absurd b
   served_like x most (Some l) None at at2 b = absurd b
 
-  pub reported_like : (most : ℕ) (o o2 : Option Link) → slice_get s.links k ≡ o → slice_get t.links k ≡ o2 → AreBothLike o o2
-      → ((l : Link) → o ≡ Some l → IsFew l.down.frames)
+  pub reported_like : (most : ℕ) (o o2 : Option ClientLink) → slice_get s.links k ≡ o → slice_get t.links k ≡ o2 → AreBothLike o o2
+      → ((l : ClientLink) → o ≡ Some l → IsFew l.down.frames)
       → IsStateLike (reported_by_course s k most o) (reported_by_course t k most o2)
   reported_like most None None at at2 b few = a
   reported_like most (Some l) (Some m) at at2 b few =

@@ -11,13 +11,13 @@ use Rattle.server_core.specs.declared.standing.Standing.{Standing}
 use Rattle.server_core.specs.Serving.{Setting, AfterFrame, after_frame, takes_memory, is_closed}
 use Rattle.server_core.specs.Laws.{AreAlikeReplies}
 use Rattle.server_core.proofs.Alike.{replies_hold_no_index}
-use Rattle.pir_world.specs.Runs.{Turn, Entry, Served, served_or, turn_more, turns}
+use Rattle.pir_world.specs.Runs.{Turn, LogEntry, Served, served_or, turn_more, turns}
 use Rattle.pir_world.specs.Shapes.{sights, HaveEqualSights, HadMemory}
 use Rattle.pir_world.proofs.ShapesFrames.{IsFrameLike, same_frame, same_shape, AreFramesLike, like_append}
 
 -- ---- logs
 
-pub equal_append : (a b c d : List Entry) → HaveEqualSights a b → HaveEqualSights c d → HaveEqualSights (a ++ c) (b ++ d)
+pub equal_append : (a b c d : List LogEntry) → HaveEqualSights a b → HaveEqualSights c d → HaveEqualSights (a ++ c) (b ++ d)
 equal_append a b c d p q k =
     flat_map-append (sights k) a c
     ∙ ap (λ z. z ++ flat_map (sights k) c) (p k)
@@ -92,7 +92,7 @@ served_equal k f g now None (Some q) e = absurd e
 served_equal k f g now (Some r) None e = absurd e
 
 module _ (x : Setting) (k : ℕ) where
-  turn_like_at : (h : History) (st : Standing) (rs qs : List Frame) (log log2 : List Entry) (f g : Frame)
+  turn_like_at : (h : History) (st : Standing) (rs qs : List Frame) (log log2 : List LogEntry) (f g : Frame)
       → AreFramesLike rs qs → HaveEqualSights log log2 → IsFrameLike f g
       → IsTurnLike (turn_more x false k (record { history = h; standing = st; replies = rs; log = log }) f)
       (turn_more x false k (record { history = h; standing = st; replies = qs; log = log2 }) g)
@@ -123,13 +123,13 @@ module _ (x : Setting) (k : ℕ) where
 
   -- ---- where the server is out of memory and yet refuses nobody for it
 
-  more_kept : (P : Entry → Type 0) (short : Bool) (t : Turn) (f : Frame) → AllByRecursion P (turn_more x short k t f).log → AllByRecursion P t.log
+  more_kept : (P : LogEntry → Type 0) (short : Bool) (t : Turn) (f : Frame) → AllByRecursion P (turn_more x short k t f).log → AllByRecursion P t.log
   more_kept P short t f a = elim (cases_Bool (is_closed t.standing)) [
     | inl c ↦ rw c at a
     | inr c ↦ let b = rw c at a in all_first P t.log _ b
   ]
 
-  turns_kept : (P : Entry → Type 0) (short : Bool) (t : Turn) (fs : List Frame) → AllByRecursion P (turns x short k t fs).log → AllByRecursion P t.log
+  turns_kept : (P : LogEntry → Type 0) (short : Bool) (t : Turn) (fs : List Frame) → AllByRecursion P (turns x short k t fs).log → AllByRecursion P t.log
   turns_kept P short t [] a = a
   turns_kept P short t (f ∷ fs) a = more_kept P short t f (turns_kept P short (turn_more x short k t f) fs a)
 

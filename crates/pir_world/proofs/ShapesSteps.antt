@@ -15,8 +15,8 @@ use Rattle.pir_world.specs.declared.steps.Step.TheVariants.{Edit, Append, Publis
 use Rattle.pir_world.specs.declared.steps.Outcome.{Outcome}
 use Rattle.pir_world.specs.Runs.{
   State,
-  Link,
-  Entry,
+  ClientLink,
+  LogEntry,
   Plain,
   Turn,
   state_after,
@@ -122,29 +122,29 @@ module _ (x : Setting) (s t : State) (a : IsStateLike s t) where
       (subst (λ (u : State). IsStateLike (reported_by_course s k most (slice_get s.links k)) u) (sym (receipt_at t k most (slice_get t.links k)))
       (reported_like s t a k most (slice_get s.links k) (slice_get t.links k) refl refl (a.links k) few)))
     where
-      few : (l : Link) → slice_get s.links k ≡ Some l → IsFew l.down.frames
+      few : (l : ClientLink) → slice_get s.links k ≡ Some l → IsFew l.down.frames
       few l at = (few_frames x s.history l.standing (seed_of seeds k) l.client l.client.call l.up.frames l.down.frames (inv.links k l at).phase).1
 
 -- ---- what was written down stays, and where nobody is refused for memory the server had it
 
 module _ (x : Setting) (s : State) where
-  module _ (P : Entry → Type 0) where
+  module _ (P : LogEntry → Type 0) where
     abbrev IsHeldBefore : State → Type 0
     IsHeldBefore t = AllByRecursion P t.log → AllByRecursion P s.log
 
-    call_kept : (k : ℕ) (w : ClientCall) (l : Link) (f : Option CallFault) → IsHeldBefore (call_at s k w l f)
+    call_kept : (k : ℕ) (w : ClientCall) (l : ClientLink) (f : Option CallFault) → IsHeldBefore (call_at s k w l f)
     call_kept k w l (Some fault) all = all_first P s.log _ all
     call_kept k w l None all = all_first P s.log _ all
 
-    called_kept : (k : ℕ) (w : ClientCall) (o : Option Link) → IsHeldBefore (called_at s w k o)
+    called_kept : (k : ℕ) (w : ClientCall) (o : Option ClientLink) → IsHeldBefore (called_at s w k o)
     called_kept k w None all = all
     called_kept k w (Some l) all = call_kept k w l (call_refusal w l.client) all
 
-    served_kept : (short : Bool) (k most : ℕ) (o : Option Link) → IsHeldBefore (served_at x short s k most o)
+    served_kept : (short : Bool) (k most : ℕ) (o : Option ClientLink) → IsHeldBefore (served_at x short s k most o)
     served_kept short k most None all = all
     served_kept short k most (Some l) all = all_first P s.log _ all
 
-    reported_kept : (k most : ℕ) (o : Option Link) → IsHeldBefore (reported_by_course s k most o)
+    reported_kept : (k most : ℕ) (o : Option ClientLink) → IsHeldBefore (reported_by_course s k most o)
     reported_kept k most None all = all
     reported_kept k most (Some l) all = all_first P s.log _ all
 
@@ -172,11 +172,11 @@ module _ (x : Setting) (s : State) where
     steps_kept step t (fits, inl e) = subst IsHeldBefore (sym e) (step_kept false step)
     steps_kept step t (fits, inr e) = subst IsHeldBefore (sym e) (step_kept true step)
 
-  delivery_same : (k most : ℕ) (o : Option Link) → AllByRecursion HadMemory (served_at x true s k most o).log
+  delivery_same : (k most : ℕ) (o : Option ClientLink) → AllByRecursion HadMemory (served_at x true s k most o).log
       → served_at x true s k most o ≡ served_at x false s k most o
   delivery_same k most None all = refl
   delivery_same k most (Some l) all =
-      let link : Turn → Link = λ t. record { client = l.client; standing = t.standing; up = beyond l.up most; down = sent l.down t.replies } in
+      let link : Turn → ClientLink = λ t. record { client = l.client; standing = t.standing; up = beyond l.up most; down = sent l.down t.replies } in
       let turned : Turn → State = λ t. with_link s t.history k (link t) t.log in
       ap turned (turns_same x k _ (arrived l.up most) (all_last HadMemory s.log _ all))
 
@@ -188,7 +188,7 @@ module _ (x : Setting) (s : State) where
   step_is step t (fits, inl e) all = e
   step_is step t (fits, inr e) all = e ∙ short_same step (subst (λ (u : State). AllByRecursion HadMemory u.log) e all)
 
-run_kept : (P : Entry → Type 0) (x : Setting) (s : State) (steps : List Step) (t : State) → RunsTo x s steps t → AllByRecursion P t.log → AllByRecursion P s.log
+run_kept : (P : LogEntry → Type 0) (x : Setting) (s : State) (steps : List Step) (t : State) → RunsTo x s steps t → AllByRecursion P t.log → AllByRecursion P s.log
 run_kept P x s [] t e all = subst (λ (u : State). AllByRecursion P u.log) e all
 run_kept P x s (step ∷ steps) t r all = steps_kept x s P step r.0 r.1 (run_kept P x r.0 steps t r.2 all)
 

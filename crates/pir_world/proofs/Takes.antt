@@ -52,11 +52,11 @@ use Rattle.client_core.proofs.HintLaws.{delta_makes_it}
 use Rattle.client_core.proofs.Entries.{changes_taken}
 use Rattle.pir_world.proofs.ChangedRecords.{entries_good, slots_good}
 use Rattle.digit_pack.proofs.Layouts.{layout_accepted}
-use Rattle.pir_world.specs.Runs.{Retrieval, Entry, reacts}
+use Rattle.pir_world.specs.Runs.{AcceptedAsk, LogEntry, reacts}
 use Rattle.pir_world.specs.Earlier.{hint_after}
 use Rattle.pir_world.specs.Versions.{HasVersion, HintIs, asked_words, given_words, name_of, record_read, seed_of}
 use Rattle.pir_world.specs.Headlines.{IsRight, IsAnswered}
-use Rattle.pir_world.specs.Invariants.{AreRecordsOf, IsChangesTo, GoodHistory, IsKnownOf, KnownIs, SyncIs, DeltaIs, IsDeltaTo, CallIs, IsReply, IsFrom, Phase, welcome_frame}
+use Rattle.pir_world.specs.Invariants.{AreRecordsOf, IsChangesTo, GoodHistory, IsKnownOf, KnownIs, SyncIs, DeltaIs, IsDeltaTo, CallIs, IsReply, IsFrom, IsDuringCall, welcome_frame}
 use Rattle.pir_world.proofs.Later.{version_positive, one_version}
 
 pub one_alike : {X : Type 0} (x y : X) → ◌≡◌ {A = List X} (x ∷ []) (y ∷ []) → x ≡ y
@@ -87,12 +87,12 @@ pub record IsTaken (x : Setting) (seeds : List (List ℕ)) (k : ℕ) (h : Histor
     (t : AfterReply) : Type 0 where
   pub client : ClientInv x h (seed_of seeds k) st t.state
   pub no_fault : fault_of t.reaction ≡ None
-  pub phase : Phase x h st (seed_of seeds k) t.state t.state.call (sends_of t.reaction) []
+  pub phase : IsDuringCall x h st (seed_of seeds k) t.state t.state.call (sends_of t.reaction) []
   pub right : AllByRecursion (IsRight x seeds h) (reacts k (scheme_held c.hint) call reply t.reaction)
   pub number : t.state.number ≡ c.number
   pub told : name_of t.state.hint ≡ fold (hint_after k) (name_of c.hint) (reacts k (scheme_held c.hint) call reply t.reaction)
   pub asks : (scheme : Scheme) (version part : ℕ) → t.reaction ≡ Asks scheme version part → IsPartBefore call reply scheme version part
-  pub next : (f : Frame) (first : List Entry) → sends_of t.reaction ≡ f ∷ [] → IsFrom x h (seed_of seeds k) k (scheme_held t.state.hint) t.state.call f first
+  pub next : (f : Frame) (first : List LogEntry) → sends_of t.reaction ≡ f ∷ [] → IsFrom x h (seed_of seeds k) k (scheme_held t.state.hint) t.state.call f first
 
 -- ---- sizes
 
@@ -592,7 +592,7 @@ module _ (law : RetrievalGivesTheRecord) (x : Setting) (seeds : List (List ℕ))
       se : hint.scheme ≡ s
       se = sym (ap scheme_held held)
 
-      abbrev asked : Retrieval
+      abbrev asked : AcceptedAsk
       asked = record { index = j; scheme = s; version = v; number = n }
 
       abbrev answer : List ℕ

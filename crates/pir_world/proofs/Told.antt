@@ -25,10 +25,10 @@ use Rattle.client_core.specs.Calls.{ClientCall, call_since, frame_since, sync_be
 use Rattle.client_core.specs.Calls.{Hello as hello_call, Sync as sync_call, Ask as ask_call}
 use Rattle.client_core.specs.Replies.{reaction_to_reply}
 use Rattle.client_core.specs.Feeding.{takes_all, sends_of, fault_of}
-use Rattle.pir_world.specs.Runs.{Wire, Link, Retrieval, Entry, Called, Sent, Served, arrived, beyond, sent, serves, served_or, reports, reacts, reader_key}
+use Rattle.pir_world.specs.Runs.{Wire, ClientLink, AcceptedAsk, LogEntry, Called, Sent, Served, arrived, beyond, sent, serves, served_or, reports, reacts, reader_key}
 use Rattle.pir_world.specs.Earlier.{IsSentLast, IsServedLast, is_ask, asks_of, hint_after, hint_named, IsAsked, HasEarlier, IsAskForChanges, IsAskForPart}
 use Rattle.pir_world.specs.Versions.{name_of, seed_of}
-use Rattle.pir_world.specs.Invariants.{GoodHistory, IsReply, outstanding_frame, InFlight, Phase, LinkInvariant, IsFrom, LogInvariant, EachAfter}
+use Rattle.pir_world.specs.Invariants.{GoodHistory, IsReply, outstanding_frame, InFlight, IsDuringCall, LinkInvariant, IsFrom, LogInvariant, EachAfter}
 use Rattle.pir_world.proofs.Receipts.{reported_by}
 use Rattle.pir_world.proofs.Wires.{none_arrives, one_arrives}
 use Rattle.pir_world.proofs.Serves.{ask_words}
@@ -45,7 +45,7 @@ none_one : {X : Type 0} (xs : List X) (x : X) → xs ≡ [] → xs ≡ x ∷ [] 
 none_one {X = X} xs x a b = let e : ◌≡◌ {A = List X} [] (x ∷ []) = sym a ∙ b in cc
 
 -- what a step of client k leaves: what is said of it, and what came before each entry
-pub record Logged (x : Setting) (seeds : List (List ℕ)) (h : History) (k : ℕ) (l : Link) (log es : List Entry) : Type 0 where
+pub record Logged (x : Setting) (seeds : List (List ℕ)) (h : History) (k : ℕ) (l : ClientLink) (log es : List LogEntry) : Type 0 where
   pub kept : LogInvariant x h (seed_of seeds k) k l (log ++ es)
   pub earlier : EachAfter (HasEarlier x seeds h) log es
 
@@ -57,7 +57,7 @@ flight_up x h st seed c call up down f e (inl p) = p.1
 flight_up x h st seed c call up down f e (inr p) = absurd (none_one up f p.0 e)
 
 up_alone : (x : Setting) (h : History) (st : Standing) (seed : List ℕ) (c : ClientState) (call : Call) (up down : List Frame) (f : Frame) → up ≡ f ∷ []
-    → Phase x h st seed c call up down → down ≡ []
+    → IsDuringCall x h st seed c call up down → down ≡ []
 up_alone x h st seed c Idle up down f e p = p.1
 up_alone x h st seed c Hello up down f e p = flight_up x h st seed c Hello up down f e p
 up_alone x h st seed c (Sync scheme v q) up down f e p = flight_up x h st seed c (Sync scheme v q) up down f e p
@@ -78,7 +78,7 @@ flight_down x h st seed c call up down r e (inl p) = absurd (none_one down r p.1
 flight_down x h st seed c call up down r e (inr p) = (p.0, subst (λ (y : Frame). IsReply x h st seed (scheme_held c.hint) call y) (one_alike p.1.0 r (sym p.1.1 ∙ e)) p.1.2)
 
 down_alone : (x : Setting) (h : History) (st : Standing) (seed : List ℕ) (c : ClientState) (call : Call) (up down : List Frame) (r : Frame) → down ≡ r ∷ []
-    → Phase x h st seed c call up down → IsComing x h st seed c call up r
+    → IsDuringCall x h st seed c call up down → IsComing x h st seed c call up r
 down_alone x h st seed c Idle up down r e p = absurd (none_one down r p.1 e)
 down_alone x h st seed c Hello up down r e p = flight_down x h st seed c Hello up down r e p
 down_alone x h st seed c (Sync scheme v q) up down r e p = flight_down x h st seed c (Sync scheme v q) up down r e p
@@ -96,11 +96,11 @@ one_reply (Some y) r e = ap (λ (z : Frame). Some z) (one_alike y r e)
 -- ---- what changed is asked for: records in a wide client, and rows in another one
 
 since_in_flight : (x : Setting) (h : History) (st : Standing) (seed : List ℕ) (c : ClientState) (since : ℕ) (wide : Bool) (up down : List Frame) →
-    Phase x h st seed c (call_since wide since) up down → InFlight x h st seed c (call_since wide since) up down
+    IsDuringCall x h st seed c (call_since wide since) up down → InFlight x h st seed c (call_since wide since) up down
 since_in_flight x h st seed c since true up down p = p
 since_in_flight x h st seed c since false up down p = p
 
-since_from : (x : Setting) (h : History) (seed : List ℕ) (k : ℕ) (s : Scheme) (since : ℕ) (wide : Bool) (first : List Entry) →
+since_from : (x : Setting) (h : History) (seed : List ℕ) (k : ℕ) (s : Scheme) (since : ℕ) (wide : Bool) (first : List LogEntry) →
     IsFrom x h seed k s (call_since wide since) (frame_since wide since) first
 since_from x h seed k s since true first = refl
 since_from x h seed k s since false first = refl
@@ -109,7 +109,7 @@ since_keeps : (k : ℕ) (hint : Option (Scheme × ℕ)) (since : ℕ) (wide : Bo
 since_keeps k hint since true = refl
 since_keeps k hint since false = refl
 
-since_earlier : (x : Setting) (seeds : List (List ℕ)) (h : History) (k : ℕ) (since : ℕ) (wide : Bool) (before : List Entry) →
+since_earlier : (x : Setting) (seeds : List (List ℕ)) (h : History) (k : ℕ) (since : ℕ) (wide : Bool) (before : List LogEntry) →
     IsAskForChanges k since before → HasEarlier x seeds h before (Sent k (frame_since wide since))
 since_earlier x seeds h k since true before p = p
 since_earlier x seeds h k since false before p = p
@@ -137,7 +137,7 @@ reacts_sends k s call reply (Asks scheme version part) f e = ap (λ (y : Frame).
 reacts_sends k s call reply (Reports event) f e = absurd cc
 reacts_sends k s call reply (Fails fault) f e = absurd cc
 
-module _ (x : Setting) (seeds : List (List ℕ)) (h : History) (k : ℕ) (log first : List Entry) (reply f : Frame) (s : IsServedLast k f reply first log) where
+module _ (x : Setting) (seeds : List (List ℕ)) (h : History) (k : ℕ) (log first : List LogEntry) (reply f : Frame) (s : IsServedLast k f reply first log) where
   part_earlier : (scheme : Scheme) (version part : ℕ) (z : Scheme) (call : Call) → IsFrom x h (seed_of seeds k) k z call f first → IsPartBefore call reply scheme version part
       → IsAskForPart k (scheme_byte scheme) version part log
   part_earlier scheme version part z (Sync s2 v2 p) from a =
@@ -191,17 +191,17 @@ module _ (x : Setting) (seeds : List (List ℕ)) (h : History) (k : ℕ) (log fi
   reacts_earlier (Reports event) z Append from asks = ((f, reply, first, s), tt)
   reacts_earlier (Reports event) z Publish from asks = ((f, reply, first, s), tt)
 
-module _ (x : Setting) (seeds : List (List ℕ)) (h : History) (k : ℕ) (l : Link) (log : List Entry) (g : LogInvariant x h (seed_of seeds k) k l log) where
+module _ (x : Setting) (seeds : List (List ℕ)) (h : History) (k : ℕ) (l : ClientLink) (log : List LogEntry) (g : LogInvariant x h (seed_of seeds k) k l log) where
   -- ---- an accepted call
 
   abbrev called_state : ClientCall → ClientState
   called_state w = state_after_call w l.client
 
   -- what is written down of a call that sends a frame
-  abbrev entries_of : ClientCall → Frame → List Entry
+  abbrev entries_of : ClientCall → Frame → List LogEntry
   entries_of w f = Called k w None ∷ Sent k f ∷ []
 
-  abbrev called_entries : ClientCall → List Entry
+  abbrev called_entries : ClientCall → List LogEntry
   called_entries w = entries_of w (call_frame w l.client)
 
   sent_called : (w : ClientCall) (f : Frame) → IsSentLast k f (log ++ Called k w None ∷ []) (log ++ entries_of w f)
@@ -219,7 +219,7 @@ module _ (x : Setting) (seeds : List (List ℕ)) (h : History) (k : ℕ) (l : Li
   called_down d sends r (inr p) e = one_more l.up.frames sends p.0
 
   -- the link after a call that leads to a state and sends a frame
-  abbrev link_with : ClientState → Frame → Link
+  abbrev link_with : ClientState → Frame → ClientLink
   link_with d f = record { client = d; standing = l.standing; up = sent l.up (f ∷ []); down = l.down }
 
   called_log : (w : ClientCall) (d : ClientState) (sends : Frame) → sends ≡ outstanding_frame d d.call
@@ -286,7 +286,7 @@ module _ (x : Setting) (seeds : List (List ℕ)) (h : History) (k : ℕ) (l : Li
       → Logged x seeds h k (link_called (sync_call s) l) log (called_entries (sync_call s))
   logged_sync s n = begun (delta_base s l.client.hint) s refl n
 
-  abbrev retrieval : ℕ → Retrieval
+  abbrev retrieval : ℕ → AcceptedAsk
   retrieval j = record { index = j; scheme = scheme_held l.client.hint; version = known_version l.client.known; number = l.client.number }
 
   asked : (j : ℕ) → LinkInvariant x h (seed_of seeds k) (link_called (ask_call j) l)
@@ -345,7 +345,7 @@ module _ (x : Setting) (seeds : List (List ℕ)) (h : History) (k : ℕ) (l : Li
         earlier = ((s.0, s.1), tt);
       }
 
-  abbrev served_link : Bool → List Frame → Wire → Link
+  abbrev served_link : Bool → List Frame → Wire → ClientLink
   served_link short fs b =
       let t = serves x short k h l.standing fs in
       record { client = l.client; standing = t.standing; up = b; down = sent l.down t.replies }
@@ -357,9 +357,9 @@ module _ (x : Setting) (seeds : List (List ℕ)) (h : History) (k : ℕ) (l : Li
       rw (e, o) (served_entry f _ _ b _ at u (ap (λ (z : List Frame). z ++ option_to_list (served_or short x h l.standing f).reply) d))
 
   -- nothing arrives
-  log_nothing : (m : Link) → m.client ≡ l.client → m.up.frames ≡ l.up.frames → m.down.frames ≡ l.down.frames → Logged x seeds h k m log []
+  log_nothing : (m : ClientLink) → m.client ≡ l.client → m.up.frames ≡ l.up.frames → m.down.frames ≡ l.down.frames → Logged x seeds h k m log []
   log_nothing m c u d = record {
-    kept = subst (λ (es : List Entry). LogInvariant x h (seed_of seeds k) k m es) (sym (append-nil log)) (log_same x h (seed_of seeds k) k l m log c u d g);
+    kept = subst (λ (es : List LogEntry). LogInvariant x h (seed_of seeds k) k m es) (sym (append-nil log)) (log_same x h (seed_of seeds k) k l m log c u d g);
     earlier = tt;
   }
 
@@ -382,7 +382,7 @@ module _ (x : Setting) (seeds : List (List ℕ)) (h : History) (k : ℕ) (l : Li
 
   -- ---- a delivery to the client
 
-  replied : (r : Frame) (m : Link) (es : List Entry) → m.client ≡ (reaction_to_reply l.client r).state
+  replied : (r : Frame) (m : ClientLink) (es : List LogEntry) → m.client ≡ (reaction_to_reply l.client r).state
       → m.up.frames ≡ sends_of (reaction_to_reply l.client r).reaction → m.down.frames ≡ [] → l.down.frames ≡ r ∷ []
       → IsTaken x seeds k h l.standing l.client l.client.call r (reaction_to_reply l.client r)
       → es ≡ reacts k (scheme_held l.client.hint) l.client.call r (reaction_to_reply l.client r).reaction → Logged x seeds h k m log es
@@ -392,20 +392,20 @@ module _ (x : Setting) (seeds : List (List ℕ)) (h : History) (k : ℕ) (l : Li
       record {
         kept = record {
           number = same_number k m.client.number log es (ap (λ (y : ClientState). y.number) c ∙ t.number ∙ g.number)
-              (subst (λ (z : List Entry). AllByRecursion (λ e. is_ask k e ≡ false) z) (sym is) (reacts_no_ask k (scheme_held l.client.hint) l.client.call r reaction));
+              (subst (λ (z : List LogEntry). AllByRecursion (λ e. is_ask k e ≡ false) z) (sym is) (reacts_no_ask k (scheme_held l.client.hint) l.client.call r reaction));
           hint =
               ap (λ (y : ClientState). name_of y.hint) c ∙ t.told
               ∙ ap (λ (n : Option (Scheme × ℕ)). fold (hint_after k) n (reacts k (scheme_held l.client.hint) l.client.call r reaction)) g.hint
-              ∙ ap (λ (z : List Entry). fold (hint_after k) (hint_named k log) z) (sym is)
+              ∙ ap (λ (z : List LogEntry). fold (hint_after k) (hint_named k log) z) (sym is)
               ∙ sym (hint_more k log es);
           sent = λ f e. (
             log,
-            record { since = []; log_is = ap (λ (z : List Entry). log ++ z) (is ∙ reacts_sends k (scheme_held l.client.hint) l.client.call r reaction f (sym u ∙ e)); aside = tt },
+            record { since = []; log_is = ap (λ (z : List LogEntry). log ++ z) (is ∙ reacts_sends k (scheme_held l.client.hint) l.client.call r reaction f (sym u ∙ e)); aside = tt },
             subst (λ (y : ClientState). IsFrom x h (seed_of seeds k) k (scheme_held y.hint) y.call f log) (sym c) (t.next f log (sym u ∙ e)),
           );
           served = λ r2 e. absurd (none_one m.down.frames r2 d e);
         };
-        earlier = subst (λ (z : List Entry). EachAfter (HasEarlier x seeds h) log z) (sym is)
+        earlier = subst (λ (z : List LogEntry). EachAfter (HasEarlier x seeds h) log z) (sym is)
             (reacts_earlier x seeds h k log s.1 r s.0 s.2 reaction (scheme_held l.client.hint) l.client.call s.3 t.asks);
       }
 
@@ -414,7 +414,7 @@ module _ (x : Setting) (seeds : List (List ℕ)) (h : History) (k : ℕ) (l : Li
       → reported_by k l.client (r ∷ []) ≡ reacts k (scheme_held l.client.hint) l.client.call r (reaction_to_reply l.client r).reaction
   reported_is r e = ap (λ (b : Bool). reacts k (scheme_held l.client.hint) l.client.call r (reaction_to_reply l.client r).reaction ++ cond b [] []) (ap is_some e) ∙ append-nil _
 
-  abbrev reported_link : List Frame → Wire → Link
+  abbrev reported_link : List Frame → Wire → ClientLink
   reported_link fs b = record { client = (takes_all l.client fs).state; standing = l.standing; up = sent l.up (takes_all l.client fs).sends; down = b }
 
   reported_one : (r : Frame) (fs : List Frame) (b : Wire) → fs ≡ r ∷ [] → b.frames ≡ [] → l.up.frames ≡ [] → l.down.frames ≡ r ∷ []

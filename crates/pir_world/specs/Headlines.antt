@@ -22,7 +22,7 @@ use Rattle.client_core.specs.declared.state.Event.TheVariants.{Welcomed, Synced,
 use Rattle.client_core.specs.Replies.{event_read}
 use Rattle.pir_world.specs.declared.steps.Step.{Step}
 use Rattle.pir_world.specs.declared.steps.Outcome.TheVariants.{Published, Reported, Failed}
-use Rattle.pir_world.specs.Runs.{State, Link, Retrieval, Entry, Served, Ended, Plain, RunsTo, opening, setting_in}
+use Rattle.pir_world.specs.Runs.{State, ClientLink, AcceptedAsk, LogEntry, Served, Ended, Plain, RunsTo, opening, setting_in}
 use Rattle.pir_world.specs.Versions.{HasVersion, IsVersion, given_words, record_read, IsQuietOn, seed_of, HintIs, name_of}
 use Rattle.pir_world.specs.Earlier.{AllWithEarlier, HasEarlier, hint_named}
 
@@ -30,7 +30,7 @@ use Rattle.pir_world.specs.Earlier.{AllWithEarlier, HasEarlier, hint_named}
 -- is this version's, and the event is what the answer reads as. If the retrieval's noise sums stay
 -- below half of delta, and on a certain shape always, the event has exactly the record's bytes in
 -- this version.
-pub record IsAnswered (x : Setting) (h : History) (seed : List ℕ) (r : Retrieval) (reply : Frame) (event : Event) : Type 0 where
+pub record IsAnswered (x : Setting) (h : History) (seed : List ℕ) (r : AcceptedAsk) (reply : Frame) (event : Event) : Type 0 where
   pub records : List (List ℕ)
   pub version_is : HasVersion h r.version records
   pub inside : r.index < length records
@@ -42,7 +42,7 @@ pub record IsAnswered (x : Setting) (h : History) (seed : List ℕ) (r : Retriev
 -- A stale retrieval: the reply names a version that there is, later than the one that the retrieval
 -- names, with its count of records, and the client reports that version. That it was current when
 -- the query was served, the entry of that query says (`IsRightReply`).
-pub record IsStale (h : History) (r : Retrieval) (reply : Frame) (event : Event) : Type 0 where
+pub record IsStale (h : History) (r : AcceptedAsk) (reply : Frame) (event : Event) : Type 0 where
   pub now : ℕ
   pub records : List (List ℕ)
   pub version_is : HasVersion h now records
@@ -51,7 +51,7 @@ pub record IsStale (h : History) (r : Retrieval) (reply : Frame) (event : Event)
   pub event_is : event ≡ Stale now
 
 -- how a retrieval ends: with its answer, as stale, or refused because the server was out of memory
-abbrev pub IsRightEnd : Setting → History → List ℕ → Retrieval → Frame → Event → Type 0
+abbrev pub IsRightEnd : Setting → History → List ℕ → AcceptedAsk → Frame → Event → Type 0
 IsRightEnd x h seed r reply event =
     IsAnswered x h seed r reply event ⊎ IsStale h r reply event
     ⊎ ((reply ≡ refused refusal.Memory) × (event ≡ Refused (code_of refusal.Memory)))
@@ -79,7 +79,7 @@ IsRightEvent h _ = ⊥
 -- An entry is right by itself: a query names a scheme, and was served rightly; a retrieval ended
 -- rightly; any other event is right; a version published is one that there is; no client fails. Of
 -- every other entry, as a refused edit or a frame served that is no query, nothing is asked here.
-abbrev pub IsRight : Setting → List (List ℕ) → History → Entry → Type 0
+abbrev pub IsRight : Setting → List (List ℕ) → History → LogEntry → Type 0
 IsRight x seeds h (Served k (frame.Query scheme version words) now reply) =
     (s : Scheme) × (scheme ≡ scheme_byte s) × IsRightReply x h s version now words reply
 IsRight x seeds h (Ended k r reply event) = IsRightEnd x h (seed_of seeds k) r reply event
@@ -94,8 +94,8 @@ IsRight x seeds h _ = Unit {0}
 pub record Headline (x : Setting) (seeds : List (List ℕ)) (s : State) : Type 0 where
   pub entries : AllByRecursion (IsRight x seeds s.history) s.log
   pub earlier : AllWithEarlier (HasEarlier x seeds s.history) s.log
-  pub hints : (k : ℕ) (l : Link) → slice_get s.links k ≡ Some l → HintIs x s.history l.client.hint
-  pub named : (k : ℕ) (l : Link) → slice_get s.links k ≡ Some l → name_of l.client.hint ≡ hint_named k s.log
+  pub hints : (k : ℕ) (l : ClientLink) → slice_get s.links k ≡ Some l → HintIs x s.history l.client.hint
+  pub named : (k : ℕ) (l : ClientLink) → slice_get s.links k ≡ Some l → name_of l.client.hint ≡ hint_named k s.log
 
 -- a snapshot that a store accepts, with bytes for its records
 pub record IsOpening (h : Header) (records : List ℕ) : Type 0 where

@@ -28,7 +28,7 @@ use Rattle.client_core.specs.declared.state.Call.TheVariants.{Idle, Hello, Sync,
 use Rattle.client_core.specs.States.{is_wide_client, scheme_held}
 use Rattle.client_core.specs.Calls.{call_words}
 use Rattle.client_core.specs.Replies.{are_ascending}
-use Rattle.pir_world.specs.Runs.{State, Link, Entry, reader_key}
+use Rattle.pir_world.specs.Runs.{State, ClientLink, LogEntry, reader_key}
 use Rattle.pir_world.specs.Earlier.{IsSentLast, IsServedLast, asks_of, hint_named, IsAsked, HasEarlier}
 use Rattle.pir_world.specs.Versions.{HasVersion, HintIs, given_words, name_of, seed_of}
 use Rattle.pir_world.specs.Headlines.{IsRight}
@@ -174,19 +174,19 @@ InFlight x h st seed c call up down =
     ⊎ ((up ≡ []) × ((r : Frame) × (down ≡ r ∷ []) × IsReply x h st seed (scheme_held c.hint) call r))
 
 -- at most one frame is on its way, and none without a call
-abbrev pub Phase : Setting → History → Standing → List ℕ → ClientState → Call → List Frame → List Frame → Type 0
-Phase x h st seed c Idle up down = (up ≡ []) × (down ≡ [])
-Phase x h st seed c Hello up down = InFlight x h st seed c Hello up down
-Phase x h st seed c (Sync scheme v p) up down = InFlight x h st seed c (Sync scheme v p) up down
-Phase x h st seed c (Delta since) up down = InFlight x h st seed c (Delta since) up down
-Phase x h st seed c (Changes since) up down = InFlight x h st seed c (Changes since) up down
-Phase x h st seed c (Ask i v n) up down = InFlight x h st seed c (Ask i v n) up down
-Phase x h st seed c Edit up down = ⊥
-Phase x h st seed c Append up down = ⊥
-Phase x h st seed c Publish up down = ⊥
+abbrev pub IsDuringCall : Setting → History → Standing → List ℕ → ClientState → Call → List Frame → List Frame → Type 0
+IsDuringCall x h st seed c Idle up down = (up ≡ []) × (down ≡ [])
+IsDuringCall x h st seed c Hello up down = InFlight x h st seed c Hello up down
+IsDuringCall x h st seed c (Sync scheme v p) up down = InFlight x h st seed c (Sync scheme v p) up down
+IsDuringCall x h st seed c (Delta since) up down = InFlight x h st seed c (Delta since) up down
+IsDuringCall x h st seed c (Changes since) up down = InFlight x h st seed c (Changes since) up down
+IsDuringCall x h st seed c (Ask i v n) up down = InFlight x h st seed c (Ask i v n) up down
+IsDuringCall x h st seed c Edit up down = ⊥
+IsDuringCall x h st seed c Append up down = ⊥
+IsDuringCall x h st seed c Publish up down = ⊥
 
 -- a client, its session and what is between them
-pub record LinkInvariant (x : Setting) (h : History) (seed : List ℕ) (l : Link) : Type 0 where
+pub record LinkInvariant (x : Setting) (h : History) (seed : List ℕ) (l : ClientLink) : Type 0 where
   pub seed_is : l.client.seed ≡ seed
   pub profile_is : accepts_profile x.plan l.client.profile ≡ true
   pub alive : l.client.failed ≡ false
@@ -194,11 +194,11 @@ pub record LinkInvariant (x : Setting) (h : History) (seed : List ℕ) (l : Link
   pub known : KnownIs x h l.standing l.client.known
   pub hint : HintIs x h l.client.hint
   pub call : CallIs x h l.client l.client.call
-  pub phase : Phase x h l.standing seed l.client l.client.call l.up.frames l.down.frames
+  pub phase : IsDuringCall x h l.standing seed l.client l.client.call l.up.frames l.down.frames
 
 -- a sync's frame asks for its next part, or for what changed; an ask's is the query of its
 -- retrieval, which was asked for last
-abbrev pub IsFrom : Setting → History → List ℕ → ℕ → Scheme → Call → Frame → List Entry → Type 0
+abbrev pub IsFrom : Setting → History → List ℕ → ℕ → Scheme → Call → Frame → List LogEntry → Type 0
 IsFrom x h seed k s (Ask i v n) f first =
     IsAsked x h seed k (record { index = i; scheme = s; version = v; number = n }) f first
 IsFrom x h seed k s (Sync scheme v p) f first = f ≡ frame.HintAsk (scheme_byte scheme) v p
@@ -208,23 +208,23 @@ IsFrom x h seed k s _ f first = Unit {0}
 
 -- what the log says of a client: its next number, the hint that it holds, the frame on its way, or
 -- the reply
-pub record LogInvariant (x : Setting) (h : History) (seed : List ℕ) (k : ℕ) (l : Link) (log : List Entry) : Type 0 where
+pub record LogInvariant (x : Setting) (h : History) (seed : List ℕ) (k : ℕ) (l : ClientLink) (log : List LogEntry) : Type 0 where
   pub number : l.client.number ≡ asks_of k log
   pub hint : name_of l.client.hint ≡ hint_named k log
   pub sent : (f : Frame) → l.up.frames ≡ f ∷ [] →
-      (first : List Entry) × IsSentLast k f first log × IsFrom x h seed k (scheme_held l.client.hint) l.client.call f first
+      (first : List LogEntry) × IsSentLast k f first log × IsFrom x h seed k (scheme_held l.client.hint) l.client.call f first
   pub served : (r : Frame) → l.down.frames ≡ r ∷ [] →
-      (f : Frame) × (first : List Entry) × IsServedLast k f r first log × IsFrom x h seed k (scheme_held l.client.hint) l.client.call f first
+      (f : Frame) × (first : List LogEntry) × IsServedLast k f r first log × IsFrom x h seed k (scheme_held l.client.hint) l.client.call f first
 
 -- P of each entry and those before it, where these came before all
-abbrev pub EachAfter : (List Entry → Entry → Type 0) → List Entry → List Entry → Type 0
+abbrev pub EachAfter : (List LogEntry → LogEntry → Type 0) → List LogEntry → List LogEntry → Type 0
 EachAfter P before [] = Unit {0}
 EachAfter P before (e ∷ es) = P before e × EachAfter P (before ++ e ∷ []) es
 
 -- all of a state
 pub record WorldInvariant (x : Setting) (seeds : List (List ℕ)) (s : State) : Type 0 where
   pub history : GoodHistory x s.history
-  pub links : (k : ℕ) (l : Link) → slice_get s.links k ≡ Some l → LinkInvariant x s.history (seed_of seeds k) l
-  pub logs : (k : ℕ) (l : Link) → slice_get s.links k ≡ Some l → LogInvariant x s.history (seed_of seeds k) k l s.log
+  pub links : (k : ℕ) (l : ClientLink) → slice_get s.links k ≡ Some l → LinkInvariant x s.history (seed_of seeds k) l
+  pub logs : (k : ℕ) (l : ClientLink) → slice_get s.links k ≡ Some l → LogInvariant x s.history (seed_of seeds k) k l s.log
   pub entries : AllByRecursion (IsRight x seeds s.history) s.log
   pub earlier : EachAfter (HasEarlier x seeds s.history) [] s.log

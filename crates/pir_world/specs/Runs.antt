@@ -17,7 +17,7 @@ use Rattle.version_store.specs.declared.store.PublishError.TheVariants as publis
 use Rattle.version_store.specs.Histories.{History, opened, current_version, after_edit, after_append, published}
 use Rattle.server_core.specs.declared.standing.Standing.{Standing}
 use Rattle.server_core.specs.declared.standing.Standing.TheVariants.{Stranger}
-use Rattle.server_core.specs.Serving.{Setting, after_frame, takes_memory, refuses, is_closed}
+use Rattle.server_core.specs.Serving.{Setting, after_frame, takes_memory, refusal_given, is_closed}
 use Rattle.server_core.specs.Serving.{AfterFrame}
 use Rattle.client_core.specs.declared.state.ClientState.{ClientState}
 use Rattle.client_core.specs.declared.state.Call.{Call}
@@ -78,7 +78,7 @@ beyond w most = unread w.frames (reach w most)
 
 -- an accepted call that asks for a record: its index, the scheme and the version that the client's
 -- hint names, the number spent
-pub record Retrieval : Type 0 where
+pub record AcceptedAsk : Type 0 where
   pub index : ℕ
   pub scheme : Scheme
   pub version : ℕ
@@ -86,22 +86,22 @@ pub record Retrieval : Type 0 where
 
 -- A client was called, and why the call was refused, if it was; it sent a frame; a frame was served
 -- while `now` was the current version; a reply ended a retrieval with an event; any other outcome.
-pub data Entry : Type 0 where
-  Called : (client : ℕ) (want : ClientCall) (refusal : Option CallFault) → Entry
-  Sent : (client : ℕ) (frame : Frame) → Entry
-  Served : (client : ℕ) (frame : Frame) (now : ℕ) (reply : Option Frame) → Entry
-  Ended : (client : ℕ) (retrieval : Retrieval) (reply : Frame) (event : Event) → Entry
-  Plain : (outcome : Outcome) → Entry
+pub data LogEntry : Type 0 where
+  Called : (client : ℕ) (want : ClientCall) (refusal : Option CallFault) → LogEntry
+  Sent : (client : ℕ) (frame : Frame) → LogEntry
+  Served : (client : ℕ) (frame : Frame) (now : ℕ) (reply : Option Frame) → LogEntry
+  Ended : (client : ℕ) (retrieval : AcceptedAsk) (reply : Frame) (event : Event) → LogEntry
+  Plain : (outcome : Outcome) → LogEntry
 
 -- what is reported of an entry to the publisher and the clients
-abbrev pub outcome_of : Entry → List Outcome
+abbrev pub outcome_of : LogEntry → List Outcome
 outcome_of (Called k want (Some fault)) = CallRefused k fault ∷ []
 outcome_of (Ended k r reply event) = Reported k event ∷ []
 outcome_of (Plain o) = o ∷ []
 outcome_of _ = []
 
 -- the outcomes of a log, in order
-abbrev pub outcomes_of : List Entry → List Outcome
+abbrev pub outcomes_of : List LogEntry → List Outcome
 outcomes_of log = flat_map outcome_of log
 
 -- ---- the server's side of a link
@@ -110,7 +110,7 @@ outcomes_of log = flat_map outcome_of log
 -- memory for, and that no other check refuses, is then refused for that.
 abbrev pub served_or : Bool → Setting → History → Standing → Frame → AfterFrame
 served_or false x h st f = after_frame x h st f
-served_or true x h st f = if takes_memory x h st f then refuses refusal.Memory st h else after_frame x h st f
+served_or true x h st f = if takes_memory x h st f then refusal_given refusal.Memory st h else after_frame x h st f
 
 -- what some frames lead to: the history and the standing after them, the replies, and what is
 -- written down
@@ -118,7 +118,7 @@ pub record Turn : Type 0 where
   pub history : History
   pub standing : Standing
   pub replies : List Frame
-  pub log : List Entry
+  pub log : List LogEntry
 
 -- a frame is served; once the session is closed, none is
 abbrev pub turn_more : Setting → Bool → ℕ → Turn → Frame → Turn
@@ -142,7 +142,7 @@ serves x short k h st fs = turns x short k (record { history = h; standing = st;
 
 -- a client, its session's standing, and the frames on their way to the server (up) and to the
 -- client (down)
-pub record Link : Type 0 where
+pub record ClientLink : Type 0 where
   pub client : ClientState
   pub standing : Standing
   pub up : Wire
@@ -150,13 +150,13 @@ pub record Link : Type 0 where
 
 -- what is written down of an event, which ends the outstanding call: of an ask the end of its
 -- retrieval, in the scheme of the hint held, and of any other call the event alone
-abbrev pub reports : ℕ → Scheme → Call → Frame → Event → Entry
+abbrev pub reports : ℕ → Scheme → Call → Frame → Event → LogEntry
 reports k s (call.Ask i v n) reply e = Ended k (record { index = i; scheme = s; version = v; number = n }) reply e
 reports k s _ reply e = Plain (Reported k e)
 
 -- what is written down of a reaction to a reply: an event, a fault, or the frame that asks for the
 -- next part of a hint
-abbrev pub reacts : ℕ → Scheme → Call → Frame → Reaction → List Entry
+abbrev pub reacts : ℕ → Scheme → Call → Frame → Reaction → List LogEntry
 reacts k s c reply (Asks scheme version part) = Sent k (frame.HintAsk (scheme_byte scheme) version part) ∷ []
 reacts k s c reply (Reports e) = reports k s c reply e ∷ []
 reacts k s c reply (Fails fault) = Plain (Failed k fault) ∷ []
@@ -166,7 +166,7 @@ reacts k s c reply (Fails fault) = Plain (Failed k fault) ∷ []
 pub record Receipt : Type 0 where
   pub client : ClientState
   pub sends : List Frame
-  pub log : List Entry
+  pub log : List LogEntry
 
 -- What client k makes of replies, one after another: the replies after a fault are dropped. What is
 -- written down of each reply names the call and the scheme of the hint that there were before it.
@@ -182,11 +182,11 @@ receives k c (f ∷ fs) =
 -- all versions, the links of the clients in their order, and what was written down
 pub record State : Type 0 where
   pub history : History
-  pub links : List Link
-  pub log : List Entry
+  pub links : List ClientLink
+  pub log : List LogEntry
 
 -- the link of client k is replaced, and entries are written down
-abbrev pub with_link : State → History → ℕ → Link → List Entry → State
+abbrev pub with_link : State → History → ℕ → ClientLink → List LogEntry → State
 with_link s h k l es = record { history = h; links = slice_set s.links k l; log = s.log ++ es }
 
 -- the history is replaced, and an outcome is written down
@@ -195,20 +195,20 @@ with_history s h o = record { history = h; links = s.links; log = s.log ++ Plain
 
 -- a call at a link, which is refused with a fault or not: a refused one is written down and changes
 -- nothing else; another one changes the client, which sends its frame
-abbrev pub call_at : State → ℕ → ClientCall → Link → Option CallFault → State
+abbrev pub call_at : State → ℕ → ClientCall → ClientLink → Option CallFault → State
 call_at s k w l (Some fault) = with_link s s.history k l (Called k w (Some fault) ∷ [])
 call_at s k w l None =
     let f = call_frame w l.client in
     with_link s s.history k (record l { client = state_after_call w l.client; up = sent l.up (f ∷ []) }) (Called k w None ∷ Sent k f ∷ [])
 
 -- a call at client k; nothing if there is no such client
-abbrev pub called_at : State → ClientCall → ℕ → Option Link → State
+abbrev pub called_at : State → ClientCall → ℕ → Option ClientLink → State
 called_at s w k None = s
 called_at s w k (Some l) = call_at s k w l (call_refusal w l.client)
 
 -- a delivery of client k to the server, which serves each frame at the delivery of its last byte;
 -- nothing if there is no such client
-abbrev pub served_at : Setting → Bool → State → ℕ → ℕ → Option Link → State
+abbrev pub served_at : Setting → Bool → State → ℕ → ℕ → Option ClientLink → State
 served_at x short s k most None = s
 served_at x short s k most (Some l) =
     let t = serves x short k s.history l.standing (arrived l.up most) in
@@ -216,7 +216,7 @@ served_at x short s k most (Some l) =
 
 -- a delivery to client k, which takes each frame at the delivery of its last byte; nothing if there
 -- is no such client
-abbrev pub received_at : State → ℕ → ℕ → Option Link → State
+abbrev pub received_at : State → ℕ → ℕ → Option ClientLink → State
 received_at s k most None = s
 received_at s k most (Some l) =
     let t = receives k l.client (arrived l.down most) in
@@ -278,7 +278,7 @@ RunsTo x s [] t = t ≡ s
 RunsTo x s (step ∷ steps) t = (mid : State) × StepsTo x s step mid × RunsTo x mid steps t
 
 -- a link as it begins, of a client of wide stores or of ordinary ones
-abbrev pub fresh_link : Bool → List ℕ → Link
+abbrev pub fresh_link : Bool → List ℕ → ClientLink
 fresh_link wide seed = record { client = fresh_in (client_profile wide) seed 0; standing = Stranger; up = silent; down = silent }
 
 -- what a snapshot fixes for every version: the plan and the SHA-256 of the publisher's key

@@ -13,7 +13,7 @@ use Rattle.client_core.specs.Calls.{Ask as ask_call}
 use Rattle.client_core.specs.Shapes.{FrameShape, shape_of_frame}
 use Rattle.pir_world.specs.declared.steps.Step.{Step}
 use Rattle.pir_world.specs.declared.steps.Step.TheVariants.{Ask}
-use Rattle.pir_world.specs.Runs.{State, Link, Entry, Called, Sent, Served, RunsTo, state_after, opening, setting_in}
+use Rattle.pir_world.specs.Runs.{State, ClientLink, LogEntry, Called, Sent, Served, RunsTo, state_after, opening, setting_in}
 use Rattle.pir_world.specs.Headlines.{IsOpening}
 
 -- ---- shapes
@@ -27,7 +27,7 @@ pub data Sight : Type 0 where
 
 -- what an entry shows of client k: of a frame or a reply its kind and length alone, of a call
 -- whether it is refused, and nothing of an event
-abbrev pub sights : ℕ → Entry → List Sight
+abbrev pub sights : ℕ → LogEntry → List Sight
 sights k (Sent j f) = cond (j == k) (FrameSent (shape_of_frame f) ∷ []) []
 sights k (Served j f now (Some reply)) = cond (j == k) (ReplyMade (shape_of_frame reply) ∷ []) []
 sights k (Called j want why) = cond (j == k) (CallMade why ∷ []) []
@@ -35,7 +35,7 @@ sights k _ = []
 
 -- two logs show the same of each client, in the same order; how what they show of one client lies
 -- between what they show of another is not compared
-abbrev pub HaveEqualSights : List Entry → List Entry → Type 0
+abbrev pub HaveEqualSights : List LogEntry → List LogEntry → Type 0
 HaveEqualSights log other = (k : ℕ) → flat_map (sights k) log ≡ flat_map (sights k) other
 
 -- ---- steps that differ in indices alone
@@ -54,13 +54,13 @@ AreStepsLike _ _ = ⊥
 -- ---- runs without refusals for memory or for an index that differs
 
 -- an entry is no frame served with a refusal for lack of memory
-abbrev pub HadMemory : Entry → Type 0
+abbrev pub HadMemory : LogEntry → Type 0
 HadMemory (Served k f now reply) = reply ≢ Some (refused Memory)
 HadMemory _ = Unit {0}
 
 -- an ask is not refused for its index, if the other step is one of another index
 abbrev pub AskIsWithin : State → Step → Step → Type 0
-AskIsWithin s (Ask k i) other = other ≢ Ask k i → (l : Link) → slice_get s.links k ≡ Some l → call_refusal (ask_call i) l.client ≢ Some BadIndex
+AskIsWithin s (Ask k i) other = other ≢ Ask k i → (l : ClientLink) → slice_get s.links k ≡ Some l → call_refusal (ask_call i) l.client ≢ Some BadIndex
 AskIsWithin s _ other = Unit {0}
 
 -- From a state on, with a server that has memory, no step of the first list is an ask that is

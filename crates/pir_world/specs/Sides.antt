@@ -20,7 +20,7 @@ use Rattle.pir_world.specs.declared.steps.Step.TheVariants as step
 use Rattle.pir_world.specs.declared.steps.Outcome.{Outcome}
 use Rattle.pir_world.specs.declared.client_endpoint.Request.{Request}
 use Rattle.pir_world.specs.declared.client_endpoint.Request.TheVariants.{Hello, Sync, Ask}
-use Rattle.pir_world.specs.Runs.{Wire, Link, State, outcomes_of, reader_key}
+use Rattle.pir_world.specs.Runs.{Wire, ClientLink, State, outcomes_of, reader_key}
 
 -- a client, and the bytes that wait in each direction
 pub record Side : Type 0 where
@@ -89,14 +89,14 @@ pub record Carries (wide : Bool) (reader : Option (List ℕ)) (waiting : List �
   pub each : AllByRecursion (IsFrameOf wide) w.frames
 
 -- a client's end and its session are those of a link
-pub record EndIs (wide : Bool) (e : Side) (session : Session) (l : Link) : Type 0 where
+pub record EndIs (wide : Bool) (e : Side) (session : Session) (l : ClientLink) : Type 0 where
   pub client_is : e.client.state ≡ l.client
   pub standing_is : session.standing ≡ l.standing
   pub up : Carries wide session.unfinished e.up l.up
   pub down : Carries wide e.client.reader e.down l.down
 
 -- an end, its session and its link; or none of them
-abbrev pub Matched : Bool → Option Side → Option Session → Option Link → Type 0
+abbrev pub Matched : Bool → Option Side → Option Session → Option ClientLink → Type 0
 Matched wide (Some e) (Some session) (Some l) = EndIs wide e session l
 Matched wide (Some e) (Some session) None = ⊥
 Matched wide (Some e) None l = ⊥

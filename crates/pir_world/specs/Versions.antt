@@ -7,7 +7,7 @@ use Rattle.pir_schemes.specs.Retrievals.{hint_matrix, query_words, answer_words,
 use Rattle.version_store.specs.Histories.{History, current_version, records_of}
 use Rattle.server_core.specs.Serving.{Setting}
 use Rattle.client_core.specs.declared.state.Hint.{Hint}
-use Rattle.pir_world.specs.Runs.{Retrieval}
+use Rattle.pir_world.specs.Runs.{AcceptedAsk}
 
 -- these are the records of a version
 abbrev pub HasVersion : History → ℕ → List (List ℕ) → Type 0
@@ -18,22 +18,22 @@ abbrev pub IsVersion : History → ℕ → Type 0
 IsVersion h v = (records : List (List ℕ)) × HasVersion h v records
 
 -- the words of a retrieval's query on some records, for the client's seed
-abbrev pub asked_words : Plan → List (List ℕ) → List ℕ → Retrieval → List ℕ
+abbrev pub asked_words : Plan → List (List ℕ) → List ℕ → AcceptedAsk → List ℕ
 asked_words p records seed r =
     query_words r.scheme (shape_at p (length records)) p.dimension p.seed seed r.number r.index
 
 -- the words of its answer on some records
-abbrev pub given_words : Plan → List (List ℕ) → List ℕ → Retrieval → List ℕ
+abbrev pub given_words : Plan → List (List ℕ) → List ℕ → AcceptedAsk → List ℕ
 given_words p records seed r = answer_words r.scheme p records (asked_words p records seed r)
 
 -- the record that its answer gives under their hint, if any
-abbrev pub record_read : Plan → List (List ℕ) → List ℕ → Retrieval → Option (List ℕ)
+abbrev pub record_read : Plan → List (List ℕ) → List ℕ → AcceptedAsk → Option (List ℕ)
 record_read p records seed r =
     let l = shape_at p (length records) in
     record_of p (reading r.scheme l (hint_matrix r.scheme p records) seed r.number r.index (given_words p records seed r))
 
 -- the noise sums of a retrieval on some records stay below half of delta
-abbrev pub IsQuietOn : Plan → List (List ℕ) → List ℕ → Retrieval → Type 0
+abbrev pub IsQuietOn : Plan → List (List ℕ) → List ℕ → AcceptedAsk → Type 0
 IsQuietOn p records seed r = IsQuietOf r.scheme p records seed r.number r.index
 
 -- the seed of client k

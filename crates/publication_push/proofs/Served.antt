@@ -9,7 +9,7 @@ use Rattle.frame_codec.specs.Refusals.{code_of}
 use Rattle.version_store.specs.Histories.{History, current_version, after_edit, after_append, published}
 use Rattle.server_core.specs.declared.standing.Standing.{Standing}
 use Rattle.server_core.specs.declared.standing.Standing.TheVariants.{Stranger, Reader, Publisher, Closed}
-use Rattle.server_core.specs.Serving.{Setting, AfterFrame, refuses, welcomes, is_closed, may_lack_memory, is_reader_key, is_publisher_key, IsAfterFrame, ServesAll}
+use Rattle.server_core.specs.Serving.{Setting, AfterFrame, refusal_given, welcome_given, is_closed, may_lack_memory, is_reader_key, is_publisher_key, IsAfterFrame, ServesAll}
 use Rattle.publication_push.specs.Orders.{Ordered, Edits, Appends, Publishes, ordered_frame}
 use Rattle.publication_push.specs.Laws.{dones}
 
@@ -61,13 +61,13 @@ abbrev Replies : AfterFrame → List ℕ → List Frame → Type 0
 Replies o versions others = dones versions ≡ option_to_list o.reply ++ others
 
 passed : (b : Bool) (good : AfterFrame) (why : Refusal) (h : History) (o : AfterFrame) (versions : List ℕ) (others : List Frame) →
-    o ≡ cond b good (refuses why Publisher h) → Replies o versions others → o ≡ good
+    o ≡ cond b good (refusal_given why Publisher h) → Replies o versions others → o ≡ good
 passed true good why h o versions others e replies = e
 passed false good why h o versions others e replies =
     absurd (no_refusal (code_of why) versions others (replies ∙ ap (λ (p : AfterFrame). option_to_list p.reply ++ others) e))
 
 not_stopped : (b : Bool) (good : AfterFrame) (why : Refusal) (h : History) (o : AfterFrame) (versions : List ℕ) (others : List Frame) →
-    o ≡ cond b (refuses why Publisher h) good → Replies o versions others → o ≡ good
+    o ≡ cond b (refusal_given why Publisher h) good → Replies o versions others → o ≡ good
 not_stopped false good why h o versions others e replies = e
 not_stopped true good why h o versions others e replies =
     absurd (no_refusal (code_of why) versions others (replies ∙ ap (λ (p : AfterFrame). option_to_list p.reply ++ others) e))
@@ -79,14 +79,14 @@ done_for x h order o versions others (inr (takes, e)) replies =
 done_for x h (Edits place bytes) o versions others (inl e) replies =
     let good : AfterFrame = done (after_edit place bytes h) (current_version h) in
     passed _ good BadLength h o versions others
-    (passed (nat_lt place (length h.draft)) (cond _ good (refuses BadLength Publisher h)) BadIndex h o versions others e replies) replies
+    (passed (nat_lt place (length h.draft)) (cond _ good (refusal_given BadLength Publisher h)) BadIndex h o versions others e replies) replies
 done_for x h (Appends bytes) o versions others (inl e) replies =
     let good : AfterFrame = done (after_append bytes h) (current_version h) in
-    passed _ good Full h o versions others (passed _ (cond _ good (refuses Full Publisher h)) BadLength h o versions others e replies) replies
+    passed _ good Full h o versions others (passed _ (cond _ good (refusal_given Full Publisher h)) BadLength h o versions others e replies) replies
 done_for x h (Publishes version) o versions others (inl e) replies =
     let good : AfterFrame = done (published h) (current_version h + 1) in
     not_stopped _ good VersionsUsedUp h o versions others
-    (passed h.marked (cond _ (refuses VersionsUsedUp Publisher h) good) NothingToPublish h o versions others e replies) replies
+    (passed h.marked (cond _ (refusal_given VersionsUsedUp Publisher h) good) NothingToPublish h o versions others e replies) replies
 
 -- ---- orders
 
@@ -119,7 +119,7 @@ all_served x (order ∷ os) h new standing versions (o, others, is, replies, res
 -- ---- a whole session
 
 -- no order is done for a stranger
-strange : (x : Setting) (h : History) (order : Ordered) (o : AfterFrame) → IsAfterFrame x h Stranger (ordered_frame order) o → o ≡ refuses NotWelcome Stranger h
+strange : (x : Setting) (h : History) (order : Ordered) (o : AfterFrame) → IsAfterFrame x h Stranger (ordered_frame order) o → o ≡ refusal_given NotWelcome Stranger h
 strange x h (Edits place bytes) o (inl e) = e
 strange x h (Appends bytes) o (inl e) = e
 strange x h (Publishes version) o (inl e) = e
@@ -128,7 +128,7 @@ strange x h (Appends bytes) o (inr (takes, e)) = absurd (let no : ⊥ = cc in no
 strange x h (Publishes version) o (inr (takes, e)) = absurd (let no : ⊥ = cc in no)
 
 -- nor for a reader
-read_only : (x : Setting) (h : History) (order : Ordered) (o : AfterFrame) → IsAfterFrame x h Reader (ordered_frame order) o → o ≡ refuses NotPublisher Reader h
+read_only : (x : Setting) (h : History) (order : Ordered) (o : AfterFrame) → IsAfterFrame x h Reader (ordered_frame order) o → o ≡ refusal_given NotPublisher Reader h
 read_only x h (Edits place bytes) o (inl e) = e
 read_only x h (Appends bytes) o (inl e) = e
 read_only x h (Publishes version) o (inl e) = e
@@ -160,7 +160,7 @@ greeted x h profile key o (inr (takes, e)) =
     absurd (let no : true ≡ false = sym takes ∙ ungranted _ (is_reader_key key) (is_publisher_key x key) in cc)
   where
     ungranted : (a b c : Bool) →
-        may_lack_memory (cond a (cond b (welcomes x Reader h) (cond c (welcomes x Publisher h) (refuses BadKey Stranger h))) (refuses BadProfile Stranger h)).reply
+        may_lack_memory (cond a (cond b (welcome_given x Reader h) (cond c (welcome_given x Publisher h) (refusal_given BadKey Stranger h))) (refusal_given BadProfile Stranger h)).reply
         ≡ false
     ungranted false b c = refl
     ungranted true true c = refl
@@ -169,7 +169,7 @@ greeted x h profile key o (inr (takes, e)) =
 greeted x h profile key o (inl e) =
     subst (IsGreeted h) (sym e) (by_checks _ (is_reader_key key) (is_publisher_key x key))
   where
-    by_checks : (a b c : Bool) → IsGreeted h (cond a (cond b (welcomes x Reader h) (cond c (welcomes x Publisher h) (refuses BadKey Stranger h))) (refuses BadProfile Stranger h))
+    by_checks : (a b c : Bool) → IsGreeted h (cond a (cond b (welcome_given x Reader h) (cond c (welcome_given x Publisher h) (refusal_given BadKey Stranger h))) (refusal_given BadProfile Stranger h))
     by_checks false b c = record { answer = Refused (code_of BadProfile); reply = refl; still_open = refl; history = refl }
     by_checks true true c = record { answer = _; reply = refl; still_open = refl; history = refl }
     by_checks true false true = record { answer = _; reply = refl; still_open = refl; history = refl }

@@ -6,7 +6,7 @@ ghost use Rattle.command_words.specs.Given.{IsNumberGiven};
 ghost use Rattle.publisher_words.specs.Tasks.{IsRecordGiven, ReadsAdd, ReadsPush, ReadsSet};
 ghost use Rattle.publisher_words.specs.Tasks.{ReadsShow};
 
-use crate::init_line::{Beginning, INIT, beginning_of};
+use crate::init_line::{INIT, InitOptions, init_options_of};
 use crate::peers::{Peer, peers_at};
 use clap::{ArgMatches, Command};
 use command_words::{
@@ -31,7 +31,7 @@ const HEX_TAKES: &str = "HEX is at most 65535 bytes as two hex digits each, or -
 
 /// Which record `set` is to replace.
 #[derive(Drop)]
-pub struct Setting<'a> {
+pub struct SetOptions<'a> {
     /// The folder.
     pub dir: &'a str,
     /// The record's index.
@@ -42,7 +42,7 @@ pub struct Setting<'a> {
 
 /// Which record `add` is to append.
 #[derive(Drop)]
-pub struct Adding<'a> {
+pub struct AddOptions<'a> {
     /// The folder.
     pub dir: &'a str,
     /// The record's bytes.
@@ -51,7 +51,7 @@ pub struct Adding<'a> {
 
 /// What `show` is to show.
 #[derive(Clone, Copy)]
-pub struct Showing<'a> {
+pub struct ShowOptions<'a> {
     /// The folder.
     pub dir: &'a str,
     /// The record's index, if one is to be shown.
@@ -60,7 +60,7 @@ pub struct Showing<'a> {
 
 /// What `push` is to bring to which servers.
 #[derive(Drop)]
-pub struct Pushing<'a> {
+pub struct PushOptions<'a> {
     /// The folder.
     pub dir: &'a str,
     /// The publisher's key.
@@ -75,7 +75,7 @@ pub struct Pushing<'a> {
 
 /// Which servers are asked for their version.
 #[derive(Drop)]
-pub struct Asking<'a> {
+pub struct StatusOptions<'a> {
     /// The folder.
     pub dir: &'a str,
     /// The servers, one at least.
@@ -86,23 +86,23 @@ pub struct Asking<'a> {
 #[derive(Drop)]
 pub enum Task<'a> {
     /// A folder with a snapshot of the records on standard input.
-    Init(Beginning<'a>),
+    Init(InitOptions<'a>),
     /// The changes of the lines on standard input, in the draft of this folder.
     Import(&'a str),
     /// Another record in a draft.
-    Set(Setting<'a>),
+    Set(SetOptions<'a>),
     /// One more record in a draft.
-    Add(Adding<'a>),
+    Add(AddOptions<'a>),
     /// What a folder has, or a record of its current version.
-    Show(Showing<'a>),
+    Show(ShowOptions<'a>),
     /// What the draft of this folder changes.
     Diff(&'a str),
     /// The draft of this folder as the next version.
     Publish(&'a str),
     /// The versions of a folder, brought to servers.
-    Push(Pushing<'a>),
+    Push(PushOptions<'a>),
     /// The versions of servers, beside a folder's.
-    Status(Asking<'a>),
+    Status(StatusOptions<'a>),
 }
 
 /// What a command line asks for.
@@ -374,10 +374,10 @@ fn dir_at<'a>(found: &ArgMatches<'a>) -> Result<&'a str, BadLine<'a>>
 }
 
 // What the words of `set` ask for.
-fn setting_of<'a>(alloc: Global, found: &ArgMatches<'a>) -> Result<Setting<'a>, BadLine<'a>>
+fn set_options_of<'a>(alloc: Global, found: &ArgMatches<'a>) -> Result<SetOptions<'a>, BadLine<'a>>
     ensures { IfOk result (ReadsSet (found_of found.now)) }
 {
-    Ok(Setting {
+    Ok(SetOptions {
         dir: dir_at(found)?,
         index: index_at(found)?,
         bytes: record_at(alloc, found)?,
@@ -385,37 +385,40 @@ fn setting_of<'a>(alloc: Global, found: &ArgMatches<'a>) -> Result<Setting<'a>, 
 }
 
 // What the words of `add` ask for.
-fn adding_of<'a>(alloc: Global, found: &ArgMatches<'a>) -> Result<Adding<'a>, BadLine<'a>>
+fn add_options_of<'a>(alloc: Global, found: &ArgMatches<'a>) -> Result<AddOptions<'a>, BadLine<'a>>
     ensures { IfOk result (ReadsAdd (found_of found.now)) }
 {
-    Ok(Adding {
+    Ok(AddOptions {
         dir: dir_at(found)?,
         bytes: record_at(alloc, found)?,
     })
 }
 
 // What the words of `show` ask for.
-fn showing_of<'a>(found: &ArgMatches<'a>) -> Result<Showing<'a>, BadLine<'a>>
+fn show_options_of<'a>(found: &ArgMatches<'a>) -> Result<ShowOptions<'a>, BadLine<'a>>
     ensures { IfOk result (ReadsShow (found_of found.now)) }
 {
     let dir = dir_at(found)?;
     match found.get_str("INDEX") {
         Some(_) => {
             let index = index_at(found)?;
-            Ok(Showing {
+            Ok(ShowOptions {
                 dir,
                 index: Some(index),
             })
         }
-        None => Ok(Showing { dir, index: None }),
+        None => Ok(ShowOptions { dir, index: None }),
     }
 }
 
 // What the words of `push` ask for.
-fn pushing_of<'a>(alloc: Global, found: &ArgMatches<'a>) -> Result<Pushing<'a>, BadLine<'a>>
+fn push_options_of<'a>(
+    alloc: Global,
+    found: &ArgMatches<'a>,
+) -> Result<PushOptions<'a>, BadLine<'a>>
     ensures { IfOk result (ReadsPush (found_of found.now)) }
 {
-    Ok(Pushing {
+    Ok(PushOptions {
         dir: dir_at(found)?,
         key: key_at(found, "key", KEY_TAKES)?,
         to: peers_at(alloc, found)?,
@@ -425,11 +428,14 @@ fn pushing_of<'a>(alloc: Global, found: &ArgMatches<'a>) -> Result<Pushing<'a>, 
 }
 
 // What the words of `status` ask for.
-fn asking_of<'a>(alloc: Global, found: &ArgMatches<'a>) -> Result<Asking<'a>, BadLine<'a>>
+fn status_options_of<'a>(
+    alloc: Global,
+    found: &ArgMatches<'a>,
+) -> Result<StatusOptions<'a>, BadLine<'a>>
     ensures { IfOk result (λ asking.
         first_value (found_of found.now) (codes "dir") ≡ Some asking.dir.now) }
 {
-    Ok(Asking {
+    Ok(StatusOptions {
         dir: dir_at(found)?,
         to: peers_at(alloc, found)?,
     })
@@ -462,14 +468,14 @@ fn task_named<'a>(
     found: &ArgMatches<'a>,
 ) -> Result<Task<'a>, BadLine<'a>> {
     match name {
-        "init" => beginning_of(found).map(Task::Init),
+        "init" => init_options_of(found).map(Task::Init),
         "import" => dir_at(found).map(Task::Import),
-        "set" => setting_of(alloc, found).map(Task::Set),
-        "add" => adding_of(alloc, found).map(Task::Add),
-        "show" => showing_of(found).map(Task::Show),
+        "set" => set_options_of(alloc, found).map(Task::Set),
+        "add" => add_options_of(alloc, found).map(Task::Add),
+        "show" => show_options_of(found).map(Task::Show),
         "diff" => dir_at(found).map(Task::Diff),
         "publish" => dir_at(found).map(Task::Publish),
-        "push" => pushing_of(alloc, found).map(Task::Push),
-        _ => asking_of(alloc, found).map(Task::Status),
+        "push" => push_options_of(alloc, found).map(Task::Push),
+        _ => status_options_of(alloc, found).map(Task::Status),
     }
 }

@@ -17,7 +17,7 @@ const GROUPS_TAKES: &str = "--groups takes a number from 0 to 65535";
 
 /// The folder that `init` is to begin.
 #[derive(Clone, Copy)]
-pub struct Beginning<'a> {
+pub struct InitOptions<'a> {
     /// The folder.
     pub dir: &'a str,
     /// What its snapshot is made with. The line names the folder in place of a file.
@@ -102,7 +102,7 @@ pub const INIT: CommandText = CommandText {
 };
 
 /// What the words of `init` ask for.
-pub fn beginning_of<'a>(found: &ArgMatches<'a>) -> Result<Beginning<'a>, BadLine<'a>>
+pub fn init_options_of<'a>(found: &ArgMatches<'a>) -> Result<InitOptions<'a>, BadLine<'a>>
     ensures { IfOk result (ReadsInit (found_of found.now)) }
 {
     let dir = text_at(found, "dir", DIR_TAKES)?;
@@ -119,5 +119,5 @@ pub fn beginning_of<'a>(found: &ArgMatches<'a>) -> Result<Beginning<'a>, BadLine
         seed: seed_at(found, "seed", SEED_TAKES)?,
         key: key_at(found, "key", KEY_TAKES)?,
     };
-    Ok(Beginning { dir, making })
+    Ok(InitOptions { dir, making })
 }

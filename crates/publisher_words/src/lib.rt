@@ -11,7 +11,8 @@ mod init_line;
 mod peers;
 
 pub use command_line::{
-    Adding, Asked, Asking, KEY_TAKES, Pushing, Setting, Showing, Task, task_of,
+    AddOptions, Asked, KEY_TAKES, PushOptions, SetOptions, ShowOptions, StatusOptions, Task,
+    task_of,
 };
-pub use init_line::Beginning;
+pub use init_line::InitOptions;
 pub use peers::Peer;

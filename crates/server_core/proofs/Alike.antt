@@ -16,7 +16,7 @@ use Rattle.pir_schemes.proofs.Lengths.{length-answer}
 use Rattle.version_store.specs.Histories.{History, current_version}
 use Rattle.server_core.specs.declared.standing.Standing.{Standing}
 use Rattle.server_core.specs.Laws.{AreAlikeReplies, RepliesHoldNoIndex, RepliesHoldNoLength, AnswersHaveTheirLayoutsLength}
-use Rattle.server_core.specs.Serving.{Setting, AfterFrame, query_asked, replies_with, refuses, stale, words_asked, is_welcome}
+use Rattle.server_core.specs.Serving.{Setting, AfterFrame, query_asked, reply_given, refusal_given, stale_given, words_asked, is_welcome}
 
 -- ---- queries
 
@@ -24,8 +24,8 @@ use Rattle.server_core.specs.Serving.{Setting, AfterFrame, query_asked, replies_
 record Alike (st : Standing) (h g : History) (o p : AfterFrame) : Type 0 where
   reply : Frame
   reply2 : Frame
-  first : o ≡ replies_with reply st h
-  second : p ≡ replies_with reply2 st g
+  first : o ≡ reply_given reply st h
+  second : p ≡ reply_given reply2 st g
   alike : AreAlikeReplies reply reply2
   kind : kind_of reply ≡ kind_of reply2
   len : length (payload_of reply) ≡ length (payload_of reply2)
@@ -39,11 +39,11 @@ either : (st : Standing) (h g : History) (b d : Bool) (o o2 p p2 : AfterFrame) �
     Alike st h g (cond b o p) (cond d o2 p2)
 either st h g b d o o2 p p2 e a c = subst (λ (x : Bool). Alike st h g (cond b o p) (cond x o2 p2)) e (by_case st h g b o o2 p p2 a c)
 
-refusals : (st : Standing) (h g : History) (why : Refusal) → Alike st h g (refuses why st h) (refuses why st g)
+refusals : (st : Standing) (h g : History) (why : Refusal) → Alike st h g (refusal_given why st h) (refusal_given why st g)
 refusals st h g why = record { reply = refused why; reply2 = refused why; first = refl; second = refl; alike = refl; kind = refl; len = refl }
 
 module _ (x : Setting) (st : Standing) (h g : History) (now : current_version h ≡ current_version g) (count : length h.current ≡ length g.current) where
-  stales : Alike st h g (stale st h) (stale st g)
+  stales : Alike st h g (stale_given st h) (stale_given st g)
   stales =
       let a = Stale (current_version h) (length h.current) in
       let b = Stale (current_version g) (length g.current) in
@@ -59,8 +59,8 @@ module _ (x : Setting) (st : Standing) (h g : History) (now : current_version h 
       }
 
   answers : (s : Scheme) (words others : List ℕ)
-      → Alike st h g (replies_with (Answer (scheme_byte s) (current_version h) (answer_words s x.plan h.current words)) st h)
-      (replies_with (Answer (scheme_byte s) (current_version g) (answer_words s x.plan g.current others)) st g)
+      → Alike st h g (reply_given (Answer (scheme_byte s) (current_version h) (answer_words s x.plan h.current words)) st h)
+      (reply_given (Answer (scheme_byte s) (current_version g) (answer_words s x.plan g.current others)) st g)
   answers s words others =
       let a = answer_words s x.plan h.current words in
       let b = answer_words s x.plan g.current others in

@@ -11,7 +11,7 @@ use Rattle.frame_codec.specs.Frames.{IsFrame, encoding}
 use Rattle.version_store.specs.Histories.{StoreState, History, StandsFor}
 use Rattle.server_core.specs.declared.standing.Standing.{Standing}
 use Rattle.server_core.specs.declared.standing.Standing.TheVariants.{Stranger, Reader, Publisher, Closed}
-use Rattle.server_core.specs.Serving.{Setting, setting_of, AfterFrame, IsAfterFrame, ServesAll, ServedAll, Serves, HasAfterFrame, after_frame, refuses, is_closed, reply_bytes, FitsReply}
+use Rattle.server_core.specs.Serving.{Setting, setting_of, AfterFrame, IsAfterFrame, ServesAll, ServedAll, Serves, HasAfterFrame, after_frame, refusal_given, is_closed, reply_bytes, FitsReply}
 
 -- a closed session is not open
 pub not_both : {P : Type 0} (st : Standing) → is_closed st ≡ true → is_closed st ≡ false → P
@@ -71,7 +71,7 @@ outcome_of : (x : Setting) (h : History) (st : Standing) (f : Frame) (store : St
     Serves x h st f store st2 before after
     → (o : AfterFrame) × IsAfterFrame x h st f o × HasAfterFrame x o store st2 before after
 outcome_of x h st f store st2 before after (inl s) = (after_frame x h st f, inl refl, s)
-outcome_of x h st f store st2 before after (inr s) = (refuses refusal.Memory st h, inr (s.0, refl), s.1)
+outcome_of x h st f store st2 before after (inr s) = (refusal_given refusal.Memory st h, inr (s.0, refl), s.1)
 
 encodes : (r : Option Frame) → flat_map encoding (option_to_list r) ≡ reply_bytes r
 encodes None = refl

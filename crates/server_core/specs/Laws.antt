@@ -14,7 +14,7 @@ use Rattle.frame_codec.specs.Streams.{Feeds, is_kind}
 use Rattle.version_store.specs.Histories.{StoreState, History, StandsFor, current_version}
 use Rattle.server_core.specs.declared.standing.Standing.{Standing}
 use Rattle.server_core.specs.Courses.{course_of_piece, lacks_memory, FeedsWithMemory, WasShortOfMemory}
-use Rattle.server_core.specs.Serving.{Setting, is_wide_setting, is_closed, after_frame, replies_with, words_answered}
+use Rattle.server_core.specs.Serving.{Setting, is_wide_setting, is_closed, after_frame, reply_given, words_answered}
 use Rattle.server_core.specs.Sessions.{Session, FeedsSession, FeedsFirst, FeedsStore, FeedsStoreFirst, WouldPublish}
 
 -- Sessions that nobody can tell apart: the same standing and the same unfinished bytes, of which a
@@ -127,8 +127,8 @@ AreAlikeReplies reply other = other ≡ reply
 pub record AnsweredAlike (x : Setting) (h g : History) (st : Standing) (query other : Frame) : Type 0 where
   pub reply : Frame
   pub reply2 : Frame
-  pub first : after_frame x h st query ≡ replies_with reply st h
-  pub second : after_frame x g st other ≡ replies_with reply2 st g
+  pub first : after_frame x h st query ≡ reply_given reply st h
+  pub second : after_frame x g st other ≡ reply_given reply2 st g
   pub alike : AreAlikeReplies reply reply2
   pub kind : kind_of reply ≡ kind_of reply2
   pub len : length (payload_of reply) ≡ length (payload_of reply2)

@@ -87,22 +87,22 @@ pub record AfterFrame : Type 0 where
   pub history : History
 
 -- a reply after which the history is as it was, with the standing after it
-abbrev pub replies_with : Frame → Standing → History → AfterFrame
-replies_with reply st h = record { reply = Some reply; standing = st; history = h }
+abbrev pub reply_given : Frame → Standing → History → AfterFrame
+reply_given reply st h = record { reply = Some reply; standing = st; history = h }
 
 -- a refusal, after which the history is as it was, with the standing after it
-abbrev pub refuses : Refusal → Standing → History → AfterFrame
-refuses why st h = replies_with (refused why) st h
+abbrev pub refusal_given : Refusal → Standing → History → AfterFrame
+refusal_given why st h = reply_given (refused why) st h
 
 -- a frame that names another version than the current one is answered with the current one and its
 -- record count
-abbrev pub stale : Standing → History → AfterFrame
-stale st h = replies_with (Stale (current_version h) (length h.current)) st h
+abbrev pub stale_given : Standing → History → AfterFrame
+stale_given st h = reply_given (Stale (current_version h) (length h.current)) st h
 
 -- a greeting that is accepted: its reply is a Welcome, and the history is as it was
-abbrev pub welcomes : Setting → Standing → History → AfterFrame
-welcomes x st h =
-    replies_with (Welcome (profile_of x.plan) x.plan.width x.plan.record_len x.plan.groups (length h.current)
+abbrev pub welcome_given : Setting → Standing → History → AfterFrame
+welcome_given x st h =
+    reply_given (Welcome (profile_of x.plan) x.plan.width x.plan.record_len x.plan.groups (length h.current)
     (current_version h) x.plan.dimension x.plan.seed) st h
 
 -- a greeting was accepted before
@@ -135,60 +135,60 @@ is_closed _ = false
 
 -- a part of a hint is asked for
 abbrev pub hint_asked : Setting → History → Standing → Option Scheme → ℕ → ℕ → AfterFrame
-hint_asked x h st None version part = refuses refusal.BadScheme st h
+hint_asked x h st None version part = refusal_given refusal.BadScheme st h
 hint_asked x h st (Some scheme) version part =
     if version == current_version h then (
     if has_part x scheme h.current part
-    then replies_with (HintPart (scheme_byte scheme) (current_version h) part (hint_part x scheme h.current part)) st h
-    else refuses refusal.BadPart st h)
-    else stale st h
+    then reply_given (HintPart (scheme_byte scheme) (current_version h) part (hint_part x scheme h.current part)) st h
+    else refusal_given refusal.BadPart st h)
+    else stale_given st h
 
 -- no rows can be given, and the hint has to be fetched whole
-abbrev pub no_delta : Standing → History → AfterFrame
-no_delta st h = replies_with (NoDelta (current_version h) (length h.current)) st h
+abbrev pub no_delta_given : Standing → History → AfterFrame
+no_delta_given st h = reply_given (NoDelta (current_version h) (length h.current)) st h
 
 -- the rows that changed since a version are asked for, and these are they: at most 1024 of them are
 -- given, with the words of the current hint
 abbrev pub delta_asked : Setting → History → Standing → ℕ → Option (List ℕ) → AfterFrame
-delta_asked x h st since None = no_delta st h
+delta_asked x h st since None = no_delta_given st h
 delta_asked x h st since (Some rows) =
     if nat_le (length rows) 1024
-    then replies_with (Delta since (current_version h) (length h.current) (named_hint_rows x h.current rows)) st h
-    else no_delta st h
+    then reply_given (Delta since (current_version h) (length h.current) (named_hint_rows x h.current rows)) st h
+    else no_delta_given st h
 
 -- the records that changed since a version are asked for, and these are the entries of what
 -- differs, if they can be given
 abbrev pub changes_asked : Setting → History → Standing → ℕ → Option (List ℕ) → AfterFrame
-changes_asked x h st since None = no_delta st h
-changes_asked x h st since (Some entries) = replies_with (Changes since (current_version h) (length h.current) entries) st h
+changes_asked x h st since None = no_delta_given st h
+changes_asked x h st since (Some entries) = reply_given (Changes since (current_version h) (length h.current) entries) st h
 
 -- a query is asked
 abbrev pub query_asked : Setting → History → Standing → Option Scheme → ℕ → List ℕ → AfterFrame
-query_asked x h st None version words = refuses refusal.BadScheme st h
+query_asked x h st None version words = refusal_given refusal.BadScheme st h
 query_asked x h st (Some scheme) version words =
     if version == current_version h then (
     if length words == words_asked x scheme h.current
-    then replies_with (Answer (scheme_byte scheme) (current_version h) (answer_words scheme x.plan h.current words)) st h
-    else refuses refusal.BadQueryLength st h)
-    else stale st h
+    then reply_given (Answer (scheme_byte scheme) (current_version h) (answer_words scheme x.plan h.current words)) st h
+    else refusal_given refusal.BadQueryLength st h)
+    else stale_given st h
 
 -- what a frame leads to whose sender has to have been greeted: this, or a refusal
 abbrev pub if_welcome : Standing → History → AfterFrame → AfterFrame
-if_welcome st h o = if is_welcome st then o else refuses refusal.NotWelcome st h
+if_welcome st h o = if is_welcome st then o else refusal_given refusal.NotWelcome st h
 
 -- what a frame leads to whose sender has to be the publisher: this, or a refusal
 abbrev pub if_publisher : Standing → History → AfterFrame → AfterFrame
-if_publisher st h o = if_welcome st h (if is_publisher st then o else refuses refusal.NotPublisher st h)
+if_publisher st h o = if_welcome st h (if is_publisher st then o else refusal_given refusal.NotPublisher st h)
 
 -- What a frame leads to, in an open session: the first check that applies decides. Words of hints
 -- and answers are made from scratch.
 abbrev pub after_frame : Setting → History → Standing → Frame → AfterFrame
 after_frame x h st (Hello profile key) =
     if accepts_profile x.plan profile then (
-    if is_reader_key key then welcomes x Reader h else (
-    if is_publisher_key x key then welcomes x Publisher h
-    else refuses refusal.BadKey st h))
-    else refuses refusal.BadProfile st h
+    if is_reader_key key then welcome_given x Reader h else (
+    if is_publisher_key x key then welcome_given x Publisher h
+    else refusal_given refusal.BadKey st h))
+    else refusal_given refusal.BadProfile st h
 after_frame x h st (HintAsk scheme version part) = if_welcome st h (hint_asked x h st (scheme_of_byte scheme) version part)
 after_frame x h st (DeltaAsk since) = if_welcome st h (delta_asked x h st since (delta_rows x.plan h since))
 after_frame x h st (Query scheme version words) = if_welcome st h (query_asked x h st (scheme_of_byte scheme) version words)
@@ -197,26 +197,26 @@ after_frame x h st (Edit index bytes) =
     if nat_lt index (length h.draft) then (
     if fits x.plan bytes
     then record { reply = Some (Done (current_version h)); standing = st; history = after_edit index bytes h }
-    else refuses refusal.BadLength st h)
-    else refuses refusal.BadIndex st h)
+    else refusal_given refusal.BadLength st h)
+    else refusal_given refusal.BadIndex st h)
 after_frame x h st (Append bytes) =
     if_publisher st h (
     if fits x.plan bytes then (
     if is_layout (shape_at x.plan (length h.draft + 1))
     then record { reply = Some (Done (current_version h)); standing = st; history = after_append bytes h }
-    else refuses refusal.Full st h)
-    else refuses refusal.BadLength st h)
+    else refusal_given refusal.Full st h)
+    else refusal_given refusal.BadLength st h)
 after_frame x h st Publish =
     if_publisher st h (
     if h.marked then (
-    if current_version h + 1 == 2 ^ 64 then refuses refusal.VersionsUsedUp st h
+    if current_version h + 1 == 2 ^ 64 then refusal_given refusal.VersionsUsedUp st h
     else record { reply = Some (Done (current_version h + 1)); standing = st; history = published h })
-    else refuses refusal.NothingToPublish st h)
+    else refusal_given refusal.NothingToPublish st h)
 after_frame x h st (ChangesAsk since) =
     if is_wide x.plan.form then if_welcome st h (changes_asked x h st since (changes_since x.plan h since (most_entry_bytes x)))
-    else refuses refusal.BadFrame Closed h
+    else refusal_given refusal.BadFrame Closed h
 after_frame x h st Bye = record { reply = None; standing = Closed; history = h }
-after_frame x h st _ = refuses refusal.BadFrame Closed h
+after_frame x h st _ = refusal_given refusal.BadFrame Closed h
 
 -- whether a frame that would get this reply may be refused for lack of memory instead: not if there
 -- is no reply, or if it is a Welcome, a Stale or a refusal
@@ -248,7 +248,7 @@ IsFull out = vec_capacity out < vec_len out + 64
 -- what a frame may lead to: what the checks say, or a refusal for memory if the last of them is
 -- memory
 abbrev pub IsAfterFrame : Setting → History → Standing → Frame → AfterFrame → Type 0
-IsAfterFrame x h st f o = (o ≡ after_frame x h st f) ⊎ ((takes_memory x h st f ≡ true) × (o ≡ refuses refusal.Memory st h))
+IsAfterFrame x h st f o = (o ≡ after_frame x h st f) ⊎ ((takes_memory x h st f ≡ true) × (o ≡ refusal_given refusal.Memory st h))
 
 -- Frames are served one after another until the session is closed; then the others are dropped. The
 -- history and the standing after them, and the replies.
@@ -282,7 +282,7 @@ pub record HasAfterFrame (x : Setting) (o : AfterFrame) (store : StoreState) (st
 abbrev pub Serves : Setting → History → Standing → Frame → StoreState → Standing → List ℕ → List ℕ → Type 0
 Serves x h st f store standing before after =
     HasAfterFrame x (after_frame x h st f) store standing before after
-    ⊎ ((takes_memory x h st f ≡ true) × HasAfterFrame x (refuses refusal.Memory st h) store standing before after)
+    ⊎ ((takes_memory x h st f ≡ true) × HasAfterFrame x (refusal_given refusal.Memory st h) store standing before after)
 
 -- frames were served by a store
 pub record ServedAll (x : Setting) (h : History) (st : Standing) (frames : List Frame) (store : StoreState) (after : Standing) (old new : List ℕ) : Type 0 where

@@ -4,7 +4,7 @@ use Rattle.std.specs.Prelude.{slice_index}
 use Rattle.matrix_u32.specs.Matrix.{WordMatrix, entry, row, with_entry, IsWhole}
 use Rattle.matrix_u32.proofs.Changes.{entry_kept, entry_set}
 use Rattle.lane_kernels.specs.Digit.{split_count}
-use Rattle.double_scheme.specs.Double.{words_of_part, answer_part, hint_part_words, second_word}
+use Rattle.double_scheme.specs.Double.{answer_part_count, answer_part, server_hint_words, second_word}
 use Rattle.double_scheme.proofs.Reading.{words_for_the_row}
 use Rattle.double_scheme.proofs.records.read_column.Goals as goal
 
@@ -32,10 +32,10 @@ loop-d-preserved g c =
     let before : WordMatrix = c.loop-d.out in
     let word : ℕ = c.read_word-word.result in
     let prefix : c.rows-prefix.result ≡ n * split_count w = c.rows-prefix.ensures.value ∙ c.requires.rows in
-    let size : c.rows-prefix.result + c.split_count.result ≡ words_of_part w n = omega (arith, prefix, c.split_count.ensures) in
-    let words : c.chunk_of-words.result.now ≡ hint_part_words w n (answer_part w n c.args.reading.now.answer.now d) =
+    let size : c.rows-prefix.result + c.split_count.result ≡ answer_part_count w n = omega (arith, prefix, c.split_count.ensures) in
+    let words : c.chunk_of-words.result.now ≡ server_hint_words w n (answer_part w n c.args.reading.now.answer.now d) =
     c.chunk_of-words.ensures.value ∙ words_for_the_row w n c.args.reading.now.answer.now d _ _ prefix size in
-    let read : word ≡ second_word w c.args.client_hint.now (row c.args.reading.now.secrets.now d) (hint_part_words w n (answer_part w n c.args.reading.now.answer.now d)) k =
+    let read : word ≡ second_word w c.args.client_hint.now (row c.args.reading.now.secrets.now d) (server_hint_words w n (answer_part w n c.args.reading.now.answer.now d)) k =
     c.read_word-word.ensures
     ∙ ap (λ (s : List ℕ). second_word w c.args.client_hint.now s c.chunk_of-words.result.now k) c.row.ensures.value
     ∙ ap (λ (ws : List ℕ). second_word w c.args.client_hint.now (row c.args.reading.now.secrets.now d) ws k) words in

@@ -3,7 +3,7 @@ use Rattle.matrix_u32.specs.Matrix.{row}
 use Rattle.matrix_u32.proofs.Products.{filled_more, words_are}
 use Rattle.regev_core.specs.Encryption.{nearest, stripped}
 use Rattle.lane_kernels.specs.Digit.{split_count}
-use Rattle.double_scheme.specs.Double.{words_of_part, answer_part, word_read}
+use Rattle.double_scheme.specs.Double.{answer_part_count, answer_part, word_read}
 use Rattle.double_scheme.proofs.records.read_digits_of_parts.Goals as goal
 
 pub loop-d-preserved : goal.loop-d-preserved
@@ -14,7 +14,7 @@ loop-d-preserved g c =
     let answer : List ℕ = c.args.reading.now.answer.now in
     let first : ℕ = c.cols.result * c.split_count.result in
     let prefix : first ≡ n * split_count w = ap (λ k. k * c.split_count.result) c.cols.ensures ∙ ap (λ k. n * k) c.split_count.ensures in
-    let size : first + c.split_count-2.result ≡ words_of_part w n = omega (arith, prefix, c.split_count-2.ensures) in
+    let size : first + c.split_count-2.result ≡ answer_part_count w n = omega (arith, prefix, c.split_count-2.ensures) in
     let part : c.chunk_of-part.result.now ≡ answer_part w n answer d =
     c.chunk_of-part.ensures.value
     ∙ ap (λ f. take (first + c.split_count-2.result) (drop (f + d * (first + c.split_count-2.result)) answer)) prefix

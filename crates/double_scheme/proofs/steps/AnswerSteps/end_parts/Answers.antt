@@ -3,7 +3,7 @@ use Rattle.std.proofs.lemmas.List.{with_items_is}
 use Rattle.lane_kernels.specs.Digit.{split_count}
 use Rattle.matrix_u32.specs.Matrix.{WordMatrix, times_vector}
 use Rattle.digit_pack.specs.Layout.{Shape, digit_cols, digits_per_record}
-use Rattle.double_scheme.specs.Double.{double_answer, first_answer_of, part_of_query, words_of_part}
+use Rattle.double_scheme.specs.Double.{double_answer, first_answer_of, part_of_query, answer_part_count}
 use Rattle.double_scheme.specs.Steps.{HasFirst, HasStepsBuffers}
 use Rattle.double_scheme.specs.declared.steps.AnswerSteps.{AnswerSteps}
 use Rattle.double_scheme.proofs.StepLemmas.{no_part_rows, part_further, parts_joined, room_after}
@@ -19,9 +19,9 @@ returns-clause-so_far g c d a2 cols first_is so_far =
     let x : _ = with_items_is s.x c.end_both-next.new.x (c.end_both-next.ensures.x_len ∙ ap length c.deref_mut.ensures.value ∙ sym s.x.ok.0) in
     let y : _ = with_items_is s.y c.end_both-next.new.y (c.end_both-next.ensures.y_len ∙ ap length c.deref_mut-2.ensures.value ∙ sym s.y.ok.0) in
     let words : _ = with_items_is s.words c.end_both-next.new.words (c.end_both-next.ensures.words_len ∙ ap length c.deref_mut-3.ensures.value ∙ sym s.words.ok.0) in
-    let len : length c.deref_mut.result.now ≡ words_of_part l.width a2.cols = ap length c.deref_mut.ensures.value ∙ room.x_len in
-    let before : HasFirst (a2.cols * split_count l.width + c.args.part * words_of_part l.width a2.cols) (double_answer l d h a2 query) c.deref_mut-3.result.now =
-    subst (HasFirst (a2.cols * split_count l.width + c.args.part * words_of_part l.width a2.cols) (double_answer l d h a2 query)) (sym c.deref_mut-3.ensures.value)
+    let len : length c.deref_mut.result.now ≡ answer_part_count l.width a2.cols = ap length c.deref_mut.ensures.value ∙ room.x_len in
+    let before : HasFirst (a2.cols * split_count l.width + c.args.part * answer_part_count l.width a2.cols) (double_answer l d h a2 query) c.deref_mut-3.result.now =
+    subst (HasFirst (a2.cols * split_count l.width + c.args.part * answer_part_count l.width a2.cols) (double_answer l d h a2 query)) (sym c.deref_mut-3.ensures.value)
     so_far in
     record {
       room = room_after l a2.cols s _ room refl refl refl refl
@@ -31,7 +31,7 @@ returns-clause-so_far g c d a2 cols first_is so_far =
       made = record {
         rows = no_part_rows l h query _ c.end_both-next.result c.end_both-next.ensures.next;
         first_is = first_is;
-        so_far = subst (HasFirst (a2.cols * split_count l.width + c.end_both-next.result * words_of_part l.width a2.cols) (double_answer l d h a2 query)) (sym words)
+        so_far = subst (HasFirst (a2.cols * split_count l.width + c.end_both-next.result * answer_part_count l.width a2.cols) (double_answer l d h a2 query)) (sym words)
             (parts_joined l d h a2 s.first query c.deref_mut-3.result.now c.end_both-next.new.words c.args.part c.end_both-next.result (length c.deref_mut.result.now)
             (c.requires.server_rows ∙ ap (λ n. n * split_count l.width) (sym cols)) room.first_rows first_is len c.end_both-next.ensures.joined before);
       };
