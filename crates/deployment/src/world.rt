@@ -7,7 +7,7 @@ mod publishing;
 mod servers;
 
 use crate::events::{Event, Events, What};
-use deployment_model::{Broken, Client, Publisher, Records, Setting, Talk, Truth};
+use deployment_model::{Broken, Client, Publisher, Records, RunSetting, Talk, Truth};
 use publisher_files::FolderVersion;
 use simulated_host::{Dice, Network, SimulatedDisk, SimulatedFiles};
 use simulated_server::{PIECE_LEN, Server};
@@ -108,7 +108,7 @@ pub struct World<'a> {
     alloc: Global,
     disk: &'a RefCell<SimulatedDisk>,
     sizes: Sizes,
-    setting: Setting,
+    setting: RunSetting,
     troubles: Troubles,
     dice: Dice,
     network: Network,
@@ -201,7 +201,7 @@ pub fn begin<'a>(
     troubles: Troubles,
     mut dice: Dice,
 ) -> Result<World<'a>, Broken> {
-    let setting = Setting::choose(&mut dice, sizes.large);
+    let setting = RunSetting::choose(&mut dice, sizes.large);
     let first = setting.first(alloc, &mut dice)?;
     servers::make_files(alloc, disk, files, &sizes, &setting, &first)?;
     let Actors {
@@ -251,7 +251,7 @@ fn actors_at_first<'a>(
     alloc: Global,
     files: &'a [SimulatedFiles<'a>],
     sizes: &Sizes,
-    setting: &Setting,
+    setting: &RunSetting,
     first: &Records,
 ) -> Result<Actors<'a>, Broken> {
     let Some(own) = files.first() else {

@@ -21,5 +21,5 @@ pub use client::{Asked, Client, ClientStep};
 pub use publisher::{Command, Publisher, is_damage, name_of, records_of};
 pub use pushing::{PushEnd, Pushed, Talk};
 pub use records::{Records, Truth};
-pub use setting::Setting;
+pub use setting::RunSetting;
 pub use store_checks::{check_hints, check_records};

@@ -25,7 +25,7 @@ const ROOM_FOR_PARTS: usize = 2_000_000;
 
 /// Which store a run is about.
 #[derive(Clone, Copy)]
-pub struct Setting {
+pub struct RunSetting {
     /// The snapshot's fields at version 1.
     pub header: Header,
     /// The publisher's key.
@@ -36,9 +36,9 @@ pub struct Setting {
     pub rest: usize,
 }
 
-impl Setting {
+impl RunSetting {
     /// A setting, chosen at random: that of a large store if so asked.
-    pub fn choose(dice: &mut Dice, large: bool) -> Setting {
+    pub fn choose(dice: &mut Dice, large: bool) -> RunSetting {
         let mut key = [0u8; 32];
         dice.fill(&mut key);
         let mut seed = [0u8; 32];
@@ -61,7 +61,7 @@ impl Setting {
             seed,
             publisher: Sha256::digest(key.as_slice()),
         };
-        Setting {
+        RunSetting {
             header,
             key,
             limits: limits_of(dice, shape.room()),

@@ -2,7 +2,9 @@
 
 use super::{CLIENT, FILE, PUBLISHER, RECORDS, SERVER, Sizes, World};
 use crate::events::What;
-use deployment_model::{Broken, Records, Setting, check_hints, check_records, is_damage, name_of};
+use deployment_model::{
+    Broken, Records, RunSetting, check_hints, check_records, is_damage, name_of,
+};
 use server_files::{OwnFile, RecordsOf, write_anew};
 use simulated_host::{SimulatedDisk, SimulatedFiles};
 use simulated_server::{Around, Server, Turned};
@@ -38,7 +40,7 @@ pub fn make_files<'a>(
     disk: &RefCell<SimulatedDisk>,
     files: &'a [SimulatedFiles<'a>],
     sizes: &Sizes,
-    setting: &Setting,
+    setting: &RunSetting,
     first: &Records,
 ) -> Result<(), Broken> {
     make_folders(disk, sizes)?;
@@ -71,7 +73,7 @@ fn make_folders(disk: &RefCell<SimulatedDisk>, sizes: &Sizes) -> Result<(), Brok
 }
 
 // Writes version 1. Returns whether that could be done.
-fn write_file(files: &SimulatedFiles<'_>, name: &str, setting: &Setting, bytes: &[u8]) -> bool {
+fn write_file(files: &SimulatedFiles<'_>, name: &str, setting: &RunSetting, bytes: &[u8]) -> bool {
     let Ok(mut file) = OwnFile::to_write(files, name) else {
         return false;
     };
