@@ -388,7 +388,8 @@ impl<K: Kernel> ClientCore<K> {
     pub fn publish(&mut self) -> Result<Vec<u8>, CallFault>
         ensures accepted { IfOk result
             (λ bytes. Accepts self.old.state ClientCall.Publish self.new.state bytes.items) }
-        ensures refused { IfErr result (λ e. Refuses self.old.state ClientCall.Publish e self.new.state) }
+        ensures refused { IfErr result
+            (λ e. Refuses self.old.state ClientCall.Publish e self.new.state) }
         ensures reader { self.new.reader ≡ self.old.reader }
     {
         may_change(&self.state)?;

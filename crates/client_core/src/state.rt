@@ -111,8 +111,8 @@ pub enum Event {
         version: u64,
         bytes: Bytes,
     },
-    /// The answer's digits set a bit past the record's last byte, or their bytes are no slot, if the
-    /// store has slots.
+    /// The answer's digits set a bit past the record's last byte, or their bytes are no slot, if
+    /// the store has slots.
     Unreadable {
         index: u32,
         version: u64,

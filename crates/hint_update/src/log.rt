@@ -13,8 +13,8 @@ use std::marker::Model;
 const MAX_LISTS: usize = 16;
 
 /// The rows of a hint that each of the latest 16 publications changed, so that a hint of a version
-/// before can be brought forward by these rows alone. A contract sees it as a `RowLog`: the number of
-/// the current version, and the lists of rows, the newest first.
+/// before can be brought forward by these rows alone. A contract sees it as a `RowLog`: the number
+/// of the current version, and the lists of rows, the newest first.
 #[derive(Drop)]
 pub struct DeltaLog {
     alloc: Global,
