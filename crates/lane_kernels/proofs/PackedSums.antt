@@ -124,22 +124,28 @@ abbrev pub IsLanesSum : List ℕ → List ℕ → List ℕ → List ℕ → ℕ 
 IsLanesSum ws xs ys zs i sum =
     sum_l sum % 2 ^ 32 ≡ sum_below (i * 8) (λ t. shifted_products (slice_index ws t) (slice_index xs t) (slice_index ys t) (slice_index zs t)) % 2 ^ 32
 
--- one vector more, whose products are these; p is the row's words by another name
-pub lanes_more : (i k : ℕ) (s p ws xs ys zs : List ℕ) (cw cx cy cz : List (List ℕ)) (r : List ℕ) → p ≡ ws → length s ≡ 8 → i < k
-    → k * 8 ≤ length p → k * 8 ≤ length xs → k * 8 ≤ length ys → k * 8 ≤ length zs
-    → cw ≡ first_chunks 8 k p → cx ≡ first_chunks 8 k xs → cy ≡ first_chunks 8 k ys → cz ≡ first_chunks 8 k zs
+-- a place within the vectors of eight of one list is within those of a list of the same length
+pub eights_inside : (i k m n p : ℕ) → i < k → k ≡ n / 8 → m ≡ p / 8 → p ≡ n → i < m
+eights_inside i k m n p below ek em same = omega arith
+
+-- one vector more, whose products are these
+pub lanes_more : (i k n : ℕ) (s ws xs ys zs : List ℕ) (cw cx cy cz : List (List ℕ)) (r : List ℕ) → i < k → k ≡ n / 8 → length s ≡ 8
+    → length ws ≡ n → length xs ≡ n → length ys ≡ n → length zs ≡ n
+    → cw ≡ first_chunks 8 (length ws / 8) ws → cx ≡ first_chunks 8 (length xs / 8) xs
+    → cy ≡ first_chunks 8 (length ys / 8) ys → cz ≡ first_chunks 8 (length zs / 8) zs
     → r ≡ lane_products (get_or cw i []) (get_or cx i []) (get_or cy i []) (get_or cz i [])
     → IsLanesSum ws xs ys zs i s → IsLanesSum ws xs ys zs (i + 1) (zip2 (λ x y. (x + y) % 2 ^ 32) s r)
-lanes_more i k s p ws xs ys zs cw cx cy cz r same long below fw fx fy fz ew ex ey ez is so_far =
-    rw (is, ew, ex, ey, ez, ← same) (shifted_more 8 i k s p xs ys zs long below fw fx fy fz (rw (← same) at so_far))
+lanes_more i k n s ws xs ys zs cw cx cy cz r below all long lw lx ly lz ew ex ey ez is so_far =
+    rw (is, ew, ex, ey, ez, lw, lx, ly, lz)
+    (shifted_more 8 i (n / 8) s ws xs ys zs long (omega arith) (omega arith) (omega arith) (omega arith) (omega arith) so_far)
 
 -- all lanes together, and the words that are left
-pub lanes_end : (k i : ℕ) (s p ws xs ys zs wt xt yt zt : List ℕ) (result : ℕ) → p ≡ ws → i ≡ k → k * 8 ≤ length p
-    → wt ≡ drop (k * 8) p → xt ≡ drop (k * 8) xs → yt ≡ drop (k * 8) ys → zt ≡ drop (k * 8) zs
-    → result ≡ (fold_l (λ a x. (a + x) % 2 ^ 32) 0 s + shifted_sum wt xt yt zt) % 2 ^ 32
+pub lanes_end : (i k n : ℕ) (s ws xs ys zs : List ℕ) (result : ℕ) → k ≤ i → i ≤ k → k ≡ n / 8 → length ws ≡ n
+    → result ≡ (fold_l (λ a x. (a + x) % 2 ^ 32) 0 s + shifted_sum (drop (length ws / 8 * 8) ws) (drop (length ws / 8 * 8) xs)
+    (drop (length ws / 8 * 8) ys) (drop (length ws / 8 * 8) zs)) % 2 ^ 32
     → IsLanesSum ws xs ys zs i s → result ≡ shifted_sum ws xs ys zs
-lanes_end k i s p ws xs ys zs wt xt yt zt result same all le dw dx dy dz is so_far =
-    is ∙ rw (← same) (shifted_end 8 k i s p xs ys zs wt xt yt zt (shifted_sum wt xt yt zt) all le dw dx dy dz refl (rw (← same) at so_far))
+lanes_end i k n s ws xs ys zs result past most all lw is so_far =
+    is ∙ shifted_end 8 (length ws / 8) i s ws xs ys zs _ _ _ _ _ (omega arith) (omega arith) refl refl refl refl refl so_far
 
 split_left : (n d u x : ℕ) → n ≡ d + 1024 * u → n * x ≡ d * x + 1024 * (u * x)
 split_left n d u x e = ap (λ k. k * x) e ∙ add-mul d (1024 * u) x ∙ ap (λ k. d * x + k) (mul_assoc 1024 u x)

@@ -5,8 +5,8 @@
 //! `d x + e y + f z` modulo 2^32: what is above a digit in one term is taken off by the next. So
 //! only the vector is prepared, once for all rows.
 
-ghost use Rattle.std.specs.Prelude.{◌≡◌, ℕ, ◌<◌, ◌≤◌, ◌+◌, ◌*◌, ◌%◌, ◌^◌, length};
-ghost use Rattle.std.specs.Prelude.{slice_index, slice_range, All};
+ghost use Rattle.std.specs.Prelude.{◌≡◌, ℕ, ◌<◌, ◌≤◌, ◌+◌, ◌*◌, ◌/◌, ◌%◌, ◌^◌, length};
+ghost use Rattle.std.specs.Prelude.{map, drop, slice_index, slice_range, List, [], ◌∷◌, All};
 ghost use Rattle.std.specs.Simd.Lanes.{fold_l};
 ghost use Rattle.matrix_u32.specs.Sum.{list_of};
 ghost use Rattle.matrix_u32.specs.Matrix.{times_vector};
@@ -172,17 +172,54 @@ fn eight_sums(packed: &[u32], row: usize, words: usize, start: usize, x: &Prepar
         ((row + j) * words + start + length x.now.a.now))
         x.now.a.now x.now.b.now x.now.c.now) }
 {
-    let (p, p_rest) = piece(packed, row, words, start, x.a.len()).as_chunks::<8>();
-    let (q, q_rest) = piece(packed, row + 1, words, start, x.a.len()).as_chunks::<8>();
-    let (r, r_rest) = piece(packed, row + 2, words, start, x.a.len()).as_chunks::<8>();
-    let (s, s_rest) = piece(packed, row + 3, words, start, x.a.len()).as_chunks::<8>();
-    let (t, t_rest) = piece(packed, row + 4, words, start, x.a.len()).as_chunks::<8>();
-    let (u, u_rest) = piece(packed, row + 5, words, start, x.a.len()).as_chunks::<8>();
-    let (v, v_rest) = piece(packed, row + 6, words, start, x.a.len()).as_chunks::<8>();
-    let (w, w_rest) = piece(packed, row + 7, words, start, x.a.len()).as_chunks::<8>();
-    let (a_all, a_rest) = x.a.as_chunks::<8>();
-    let (b_all, b_rest) = x.b.as_chunks::<8>();
-    let (c_all, c_rest) = x.c.as_chunks::<8>();
+    let count = x.a.len();
+    let p = piece(packed, row, words, start, count);
+    let q = piece(packed, row + 1, words, start, count);
+    let r = piece(packed, row + 2, words, start, count);
+    let s = piece(packed, row + 3, words, start, count);
+    let t = piece(packed, row + 4, words, start, count);
+    let u = piece(packed, row + 5, words, start, count);
+    let v = piece(packed, row + 6, words, start, count);
+    let w = piece(packed, row + 7, words, start, count);
+    eight_pieces(p, q, r, s, t, u, v, w, x)
+}
+
+// Pieces of eight rows, each with the prepared vector.
+fn eight_pieces(
+    p: &[u32],
+    q: &[u32],
+    r: &[u32],
+    s: &[u32],
+    t: &[u32],
+    u: &[u32],
+    v: &[u32],
+    w: &[u32],
+    x: &Prepared<'_>,
+) -> [u32; 8]
+    requires p { length p.now ≡ length x.now.a.now }
+    requires q { length q.now ≡ length x.now.a.now }
+    requires r { length r.now ≡ length x.now.a.now }
+    requires s { length s.now ≡ length x.now.a.now }
+    requires t { length t.now ≡ length x.now.a.now }
+    requires u { length u.now ≡ length x.now.a.now }
+    requires v { length v.now ≡ length x.now.a.now }
+    requires w { length w.now ≡ length x.now.a.now }
+    requires b { length x.now.b.now ≡ length x.now.a.now }
+    requires c { length x.now.c.now ≡ length x.now.a.now }
+    ensures { result ≡ map (λ ws. shifted_sum ws x.now.a.now x.now.b.now x.now.c.now)
+        (p.now ∷ q.now ∷ r.now ∷ s.now ∷ t.now ∷ u.now ∷ v.now ∷ w.now ∷ []) }
+{
+    let (p_all, _) = p.as_chunks::<8>();
+    let (q_all, _) = q.as_chunks::<8>();
+    let (r_all, _) = r.as_chunks::<8>();
+    let (s_all, _) = s.as_chunks::<8>();
+    let (t_all, _) = t.as_chunks::<8>();
+    let (u_all, _) = u.as_chunks::<8>();
+    let (v_all, _) = v.as_chunks::<8>();
+    let (w_all, _) = w.as_chunks::<8>();
+    let (a_all, _) = x.a.as_chunks::<8>();
+    let (b_all, _) = x.b.as_chunks::<8>();
+    let (c_all, _) = x.c.as_chunks::<8>();
     let zero = u32x8::splat(0);
     let (mut ps, mut qs, mut rs, mut ss) = (zero, zero, zero, zero);
     let (mut ts, mut us, mut vs, mut ws) = (zero, zero, zero, zero);
@@ -190,24 +227,24 @@ fn eight_sums(packed: &[u32], row: usize, words: usize, start: usize, x: &Prepar
         let a = u32x8::from_array(a_all[i]);
         let b = u32x8::from_array(b_all[i]);
         let c = u32x8::from_array(c_all[i]);
-        ps += products(p[i], a, b, c);
-        qs += products(q[i], a, b, c);
-        rs += products(r[i], a, b, c);
-        ss += products(s[i], a, b, c);
-        ts += products(t[i], a, b, c);
-        us += products(u[i], a, b, c);
-        vs += products(v[i], a, b, c);
-        ws += products(w[i], a, b, c);
+        ps += products(p_all[i], a, b, c);
+        qs += products(q_all[i], a, b, c);
+        rs += products(r_all[i], a, b, c);
+        ss += products(s_all[i], a, b, c);
+        ts += products(t_all[i], a, b, c);
+        us += products(u_all[i], a, b, c);
+        vs += products(v_all[i], a, b, c);
+        ws += products(w_all[i], a, b, c);
     }
     [
-        total(ps, p_rest, a_rest, b_rest, c_rest),
-        total(qs, q_rest, a_rest, b_rest, c_rest),
-        total(rs, r_rest, a_rest, b_rest, c_rest),
-        total(ss, s_rest, a_rest, b_rest, c_rest),
-        total(ts, t_rest, a_rest, b_rest, c_rest),
-        total(us, u_rest, a_rest, b_rest, c_rest),
-        total(vs, v_rest, a_rest, b_rest, c_rest),
-        total(ws, w_rest, a_rest, b_rest, c_rest),
+        row_total(ps, p, x),
+        row_total(qs, q, x),
+        row_total(rs, r, x),
+        row_total(ss, s, x),
+        row_total(ts, t, x),
+        row_total(us, u, x),
+        row_total(vs, v, x),
+        row_total(ws, w, x),
     ]
 }
 
@@ -230,16 +267,34 @@ pub(crate) fn total(sum: u32x8, words: &[u32], a: &[u32], b: &[u32], c: &[u32]) 
     sum.reduce_sum().wrapping_add(rest_sum(words, a, b, c))
 }
 
+// A sum of eight lanes, with the products of what is left of a row after its last whole vector.
+pub(crate) fn row_total(sum: u32x8, words: &[u32], x: &Prepared<'_>) -> u32
+    requires first { length x.now.a.now ≡ length words.now }
+    requires second { length x.now.b.now ≡ length words.now }
+    requires third { length x.now.c.now ≡ length words.now }
+    ensures { result ≡ (fold_l (λ a x. (a + x) % 2 ^ 32) 0 sum + shifted_sum
+        (drop (length words.now / 8 * 8) words.now)
+        (drop (length words.now / 8 * 8) x.now.a.now)
+        (drop (length words.now / 8 * 8) x.now.b.now)
+        (drop (length words.now / 8 * 8) x.now.c.now)) % 2 ^ 32 }
+{
+    let (_, w_rest) = words.as_chunks::<8>();
+    let (_, a_rest) = x.a.as_chunks::<8>();
+    let (_, b_rest) = x.b.as_chunks::<8>();
+    let (_, c_rest) = x.c.as_chunks::<8>();
+    total(sum, w_rest, a_rest, b_rest, c_rest)
+}
+
 fn row_sum(words: &[u32], x: &Prepared<'_>) -> u32
     requires first { length x.now.a.now ≡ length words.now }
     requires second { length x.now.b.now ≡ length words.now }
     requires third { length x.now.c.now ≡ length words.now }
     ensures { result ≡ shifted_sum words.now x.now.a.now x.now.b.now x.now.c.now }
 {
-    let (w, w_rest) = words.as_chunks::<8>();
-    let (a_all, a_rest) = x.a.as_chunks::<8>();
-    let (b_all, b_rest) = x.b.as_chunks::<8>();
-    let (c_all, c_rest) = x.c.as_chunks::<8>();
+    let (w, _) = words.as_chunks::<8>();
+    let (a_all, _) = x.a.as_chunks::<8>();
+    let (b_all, _) = x.b.as_chunks::<8>();
+    let (c_all, _) = x.c.as_chunks::<8>();
     let mut sum = u32x8::splat(0);
     for i in 0..a_all.len() {
         let a = u32x8::from_array(a_all[i]);
@@ -247,7 +302,7 @@ fn row_sum(words: &[u32], x: &Prepared<'_>) -> u32
         let c = u32x8::from_array(c_all[i]);
         sum += products(w[i], a, b, c);
     }
-    total(sum, w_rest, a_rest, b_rest, c_rest)
+    row_total(sum, words, x)
 }
 
 // Word by word, for what is left after the last whole vector.

@@ -1,13 +1,13 @@
 //! Products of packed digits with two vectors, for which the digits are read once.
 
-ghost use Rattle.std.specs.Prelude.{◌≡◌, ◌<◌, ◌≤◌, ◌+◌, ◌*◌, ◌^◌, length, slice_range, All};
+ghost use Rattle.std.specs.Prelude.{◌≡◌, ◌<◌, ◌≤◌, ◌+◌, ◌*◌, ◌^◌, length, map, slice_range, List, [], ◌∷◌, All};
 ghost use Rattle.matrix_u32.specs.Sum.{list_of};
 ghost use Rattle.matrix_u32.specs.Matrix.{times_vector};
 ghost use Rattle.lane_kernels.specs.Packed.{packed_cols, unpacked};
 ghost use Rattle.lane_kernels.specs.Carried.{shifted_sum, plus_part};
 
 use crate::packed::{
-    PART, Prepared, add_part_singly, carried, part, piece, products, row_words, total,
+    PART, Prepared, add_part_singly, carried, part, piece, products, row_total, row_words,
 };
 use std::simd::prelude::*;
 
@@ -116,16 +116,42 @@ fn four_by_two(
         ((row + j) * words + start + length x.now.a.now))
         y.now.a.now y.now.b.now y.now.c.now) }
 {
-    let (p, p_rest) = piece(packed, row, words, start, x.a.len()).as_chunks::<8>();
-    let (q, q_rest) = piece(packed, row + 1, words, start, x.a.len()).as_chunks::<8>();
-    let (r, r_rest) = piece(packed, row + 2, words, start, x.a.len()).as_chunks::<8>();
-    let (s, s_rest) = piece(packed, row + 3, words, start, x.a.len()).as_chunks::<8>();
-    let (a_all, a_rest) = x.a.as_chunks::<8>();
-    let (b_all, b_rest) = x.b.as_chunks::<8>();
-    let (c_all, c_rest) = x.c.as_chunks::<8>();
-    let (d_all, d_rest) = y.a.as_chunks::<8>();
-    let (e_all, e_rest) = y.b.as_chunks::<8>();
-    let (f_all, f_rest) = y.c.as_chunks::<8>();
+    let count = x.a.len();
+    let p = piece(packed, row, words, start, count);
+    let q = piece(packed, row + 1, words, start, count);
+    let r = piece(packed, row + 2, words, start, count);
+    let s = piece(packed, row + 3, words, start, count);
+    four_pieces_by_two(p, q, r, s, x, y)
+}
+
+// Pieces of four rows, each with both prepared vectors.
+fn four_pieces_by_two(
+    p: &[u32],
+    q: &[u32],
+    r: &[u32],
+    s: &[u32],
+    x: &Prepared<'_>,
+    y: &Prepared<'_>,
+) -> ([u32; 4], [u32; 4])
+    requires p { length p.now ≡ length x.now.a.now }
+    requires q { length q.now ≡ length x.now.a.now }
+    requires r { length r.now ≡ length x.now.a.now }
+    requires s { length s.now ≡ length x.now.a.now }
+    requires x_b { length x.now.b.now ≡ length x.now.a.now }
+    requires x_c { length x.now.c.now ≡ length x.now.a.now }
+    requires y_a { length y.now.a.now ≡ length x.now.a.now }
+    requires y_b { length y.now.b.now ≡ length x.now.a.now }
+    requires y_c { length y.now.c.now ≡ length x.now.a.now }
+    ensures x { result.0 ≡ map (λ ws. shifted_sum ws x.now.a.now x.now.b.now x.now.c.now)
+        (p.now ∷ q.now ∷ r.now ∷ s.now ∷ []) }
+    ensures y { result.1 ≡ map (λ ws. shifted_sum ws y.now.a.now y.now.b.now y.now.c.now)
+        (p.now ∷ q.now ∷ r.now ∷ s.now ∷ []) }
+{
+    let (p_all, q_all) = (p.as_chunks::<8>().0, q.as_chunks::<8>().0);
+    let (r_all, s_all) = (r.as_chunks::<8>().0, s.as_chunks::<8>().0);
+    let (a_all, b_all) = (x.a.as_chunks::<8>().0, x.b.as_chunks::<8>().0);
+    let (c_all, d_all) = (x.c.as_chunks::<8>().0, y.a.as_chunks::<8>().0);
+    let (e_all, f_all) = (y.b.as_chunks::<8>().0, y.c.as_chunks::<8>().0);
     let zero = u32x8::splat(0);
     let (mut px, mut qx, mut rx, mut sx) = (zero, zero, zero, zero);
     let (mut py, mut qy, mut ry, mut sy) = (zero, zero, zero, zero);
@@ -136,26 +162,27 @@ fn four_by_two(
         let d = u32x8::from_array(d_all[i]);
         let e = u32x8::from_array(e_all[i]);
         let f = u32x8::from_array(f_all[i]);
-        px += products(p[i], a, b, c);
-        py += products(p[i], d, e, f);
-        qx += products(q[i], a, b, c);
-        qy += products(q[i], d, e, f);
-        rx += products(r[i], a, b, c);
-        ry += products(r[i], d, e, f);
-        sx += products(s[i], a, b, c);
-        sy += products(s[i], d, e, f);
+        let (p_i, q_i, r_i, s_i) = (p_all[i], q_all[i], r_all[i], s_all[i]);
+        px += products(p_i, a, b, c);
+        py += products(p_i, d, e, f);
+        qx += products(q_i, a, b, c);
+        qy += products(q_i, d, e, f);
+        rx += products(r_i, a, b, c);
+        ry += products(r_i, d, e, f);
+        sx += products(s_i, a, b, c);
+        sy += products(s_i, d, e, f);
     }
     let x_four = [
-        total(px, p_rest, a_rest, b_rest, c_rest),
-        total(qx, q_rest, a_rest, b_rest, c_rest),
-        total(rx, r_rest, a_rest, b_rest, c_rest),
-        total(sx, s_rest, a_rest, b_rest, c_rest),
+        row_total(px, p, x),
+        row_total(qx, q, x),
+        row_total(rx, r, x),
+        row_total(sx, s, x),
     ];
     let y_four = [
-        total(py, p_rest, d_rest, e_rest, f_rest),
-        total(qy, q_rest, d_rest, e_rest, f_rest),
-        total(ry, r_rest, d_rest, e_rest, f_rest),
-        total(sy, s_rest, d_rest, e_rest, f_rest),
+        row_total(py, p, y),
+        row_total(qy, q, y),
+        row_total(ry, r, y),
+        row_total(sy, s, y),
     ];
     (x_four, y_four)
 }
