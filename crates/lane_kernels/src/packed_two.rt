@@ -1,6 +1,7 @@
 //! Products of packed digits with two vectors, for which the digits are read once.
 
-ghost use Rattle.std.specs.Prelude.{◌≡◌, ◌<◌, ◌≤◌, ◌+◌, ◌*◌, ◌^◌, length, map, slice_range, List, [], ◌∷◌, All};
+ghost use Rattle.std.specs.Prelude.{◌≡◌, ◌<◌, ◌≤◌, ◌+◌, ◌*◌, ◌^◌, length, map, slice_range};
+ghost use Rattle.std.specs.Prelude.{List, [], ◌∷◌, All};
 ghost use Rattle.matrix_u32.specs.Sum.{list_of};
 ghost use Rattle.matrix_u32.specs.Matrix.{times_vector};
 ghost use Rattle.lane_kernels.specs.Packed.{packed_cols, unpacked};
