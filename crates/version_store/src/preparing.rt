@@ -12,6 +12,7 @@ ghost use Rattle.version_store.specs.Preparing.{GivesAnswer, IsAllMade, IsMaking
 ghost use Rattle.version_store.specs.Preparing.{amount_made, scheme_made};
 ghost use Rattle.version_store.specs.Together.{ArePrepared, AreAllMade, HasWholeFor, IsStepped};
 ghost use Rattle.version_store.specs.Together.{IsAllMadeIf, IsSteppedIf, IsWholeFor};
+ghost use Rattle.version_store.specs.declared.preparing.AnswerMaking.TheVariants.{Simple};
 
 use crate::first_layer::{Digits, FirstLayer};
 use digit_pack::Layout;
@@ -380,32 +381,8 @@ fn step_both<K: Kernel>(
         making: y_making,
     } = second;
     match (x_making, y_making) {
-        (AnswerMaking::Simple(x_made, mut x_out), AnswerMaking::Simple(y_made, mut y_out)) => {
-            if x_made == y_made {
-                let made = layer.put_two_answer_rows(
-                    kernel, &x, &y, x_made, &mut x_out, &mut y_out,
-                );
-                let whole = made == x_out.len();
-                let first = Preparation {
-                    query: x,
-                    making: AnswerMaking::Simple(made, x_out),
-                };
-                let second = Preparation {
-                    query: y,
-                    making: AnswerMaking::Simple(made, y_out),
-                };
-                return (first, second, whole);
-            }
-            let first = Preparation {
-                query: x,
-                making: AnswerMaking::Simple(x_made, x_out),
-            };
-            let second = Preparation {
-                query: y,
-                making: AnswerMaking::Simple(y_made, y_out),
-            };
-            step_each(first, second, kernel, layer, server, a2)
-        }
+        (AnswerMaking::Simple(x_made, x_out), AnswerMaking::Simple(y_made, y_out))
+            if x_made == y_made => { step_together(x, y, x_made, x_out, y_out, kernel, layer) }
         (x_making, y_making) => {
             let first = Preparation {
                 query: x,
@@ -418,6 +395,38 @@ fn step_both<K: Kernel>(
             step_each(first, second, kernel, layer, server, a2)
         }
     }
+}
+
+/// One more step of two answers of SimplePIR, to the queries `x` and `y`, that both have `made`
+/// words, in one pass over the digits; and whether none is left of them.
+fn step_together<K: Kernel>(
+    x: Vec<u32>,
+    y: Vec<u32>,
+    made: usize,
+    mut x_out: Vec<u32>,
+    mut y_out: Vec<u32>,
+    kernel: K,
+    layer: &FirstLayer,
+) -> (Preparation, Preparation, bool)
+    requires first { IsMakingFor layer.now x.items (Simple made x_out) }
+    requires second { IsMakingFor layer.now y.items (Simple made y_out) }
+    ensures first { IsStepped layer.now
+        (record { query = x; making = Simple made x_out }) result.0 }
+    ensures second { IsStepped layer.now
+        (record { query = y; making = Simple made y_out }) result.1 }
+    ensures whole { IsTrue result.2 → IsAllMade result.0.making × IsAllMade result.1.making }
+{
+    let made = layer.put_two_answer_rows(kernel, &x, &y, made, &mut x_out, &mut y_out);
+    let whole = made == x_out.len();
+    let first = Preparation {
+        query: x,
+        making: AnswerMaking::Simple(made, x_out),
+    };
+    let second = Preparation {
+        query: y,
+        making: AnswerMaking::Simple(made, y_out),
+    };
+    (first, second, whole)
 }
 
 // One more step of two answers, of one after the other.
