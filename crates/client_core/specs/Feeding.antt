@@ -28,7 +28,7 @@ abbrev pub sends_of : Reaction → List Frame
 sends_of (Asks scheme version part) = frame.HintAsk (scheme_byte scheme) version part ∷ []
 sends_of _ = []
 
--- the event that it reports
+-- the event that a reaction reports, if it does
 abbrev pub events_of : Reaction → List Event
 events_of (Reports e) = e ∷ []
 events_of _ = []
@@ -45,7 +45,7 @@ pub record Course : Type 0 where
   pub events : List Event
   pub fault : Option ClientFault
 
--- before any reply
+-- a client's course before any reply
 abbrev pub start : ClientState → Course
 start c = record { state = c; sends = []; events = []; fault = None }
 
@@ -58,7 +58,7 @@ course_after_reply k t =
 abbrev pub course_more : Course → Frame → Course
 course_more k f = if is_some k.fault then k else course_after_reply k (reaction_to_reply k.state f)
 
--- frame after frame, up to a fault
+-- a client's course after further frames, one after another, up to a fault
 abbrev pub runs : Course → List Frame → Course
 runs k [] = k
 runs k (f ∷ fs) = runs (course_more k f) fs

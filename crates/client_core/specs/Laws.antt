@@ -34,7 +34,7 @@ pub data Happening : Type 0 where
   Replied : (reply : Frame) → Happening
   Failing : Happening
 
--- the state after it
+-- a client's state after a happening
 abbrev pub after : ClientState → Happening → ClientState
 after c (Accepted want) = state_after_call want c
 after c (TurnedDown want) = c

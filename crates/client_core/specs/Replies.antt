@@ -232,7 +232,6 @@ reaction_during (frame.Refused code) (Sync s v p) c = ended (record c { parts = 
 reaction_during (frame.Refused code) _ c = ended c (Refused code)
 reaction_during _ _ c = faulty c BadReply
 
--- what a frame leads to, by the outstanding call, if the client has not failed: a failed one takes
--- no frame
+-- what a frame leads to, by the outstanding call; whether the client has failed is not looked at
 abbrev pub reaction_to_reply : ClientState → Frame → AfterReply
 reaction_to_reply c f = reaction_during f c.call c

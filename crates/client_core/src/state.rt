@@ -89,12 +89,19 @@ pub enum Call {
 pub struct ClientState {
     /// The profile of its greeting: 130 if the store is to be a wide one, else 2.
     pub profile: u16,
+    /// The secret seed, which secrets and noise are drawn from.
     pub seed: [u8; 32],
+    /// The number of the next retrieval.
     pub number: u64,
+    /// What the server reported last: none before the Welcome.
     pub known: Option<ServerInfo>,
+    /// The hint held.
     pub hint: Option<Hint>,
+    /// The words of an unfinished hint that have come.
     pub parts: Parts,
+    /// The outstanding call.
     pub call: Call,
+    /// A reply was bad, or memory was refused while one was taken: nothing more is taken or sent.
     pub failed: bool,
 }
 

@@ -24,6 +24,6 @@ abbrev pub edits : ℕ → Option ServedConnection → Bool
 edits version None = false
 edits version (Some c) = is_none c.lingers && is_number version c.watch.edited
 
--- how many connections there are of such sessions
+-- how many connections there are whose session has edited the draft of a version, and goes on
 abbrev pub editor_count : ℕ → List (Option ServedConnection) → ℕ
 editor_count version places = count_by (edits version) places

@@ -98,7 +98,7 @@ pub record IsShape (l : Shape) : Type 0 where
   pub groups : 0 < l.groups
   pub small : l.width < 32
 
--- a byte list of that length
+-- bytes of a record of a shape: as many as it says
 pub record IsRecord (l : Shape) (bytes : List ℕ) : Type 0 where
   pub len : length bytes ≡ l.record_len
   pub each : All (λ b. b < 2 ^ 8) bytes
@@ -129,7 +129,7 @@ HasGroups l = (1 ≤ l.groups) × (digit_rows l ≤ l.side) × (query_parts_coun
 abbrev pub HasCount : Shape → Type 0
 HasCount l = (1 ≤ l.count) × (digit_cols l ≤ l.side)
 
--- within every limit
+-- a shape within every limit
 pub record IsLayout (l : Shape) : Type 0 where
   pub side : l.side ≤ wide_side
   pub width : HasWidth l

@@ -54,7 +54,7 @@ payload_of (NoDelta version count) = number_bytes 8 version ++ number_bytes 4 co
 payload_of (Changes since now count entries) = number_bytes 8 since ++ (number_bytes 8 now ++ (number_bytes 4 count ++ entries))
 payload_of (Refused code) = code ∷ []
 
--- how many bytes these are
+-- how many bytes a frame's payload has
 abbrev pub payload_size : Frame → ℕ
 payload_size (Load record_len groups width records) = 5 + length records
 payload_size (Hello profile key) = 2 + length key

@@ -20,13 +20,15 @@ FeedsDecide = (wide : Bool) (old : Option (List ℕ)) (piece : List ℕ) (answer
     Feeds wide old piece answer frames new → Feeds wide old piece other others end → answer ≢ Err Memory
     → other ≢ Err Memory → (answer ≡ other) × (frames ≡ others) × (new ≡ end)
 
--- if memory may be refused to one of them, its frames are the first of the other's
+-- of two feeds of the same bytes, if memory is not refused to the first, the frames of the second
+-- are the first of its frames
 abbrev pub FeedsBegin : Type 0
 FeedsBegin = (wide : Bool) (old : Option (List ℕ)) (piece : List ℕ) (answer other : Result (Unit {0}) ReadFault) (frames others : List Frame) (new end : Option (List ℕ)) →
     Feeds wide old piece answer frames new → Feeds wide old piece other others end → answer ≢ Err Memory
     → (more : List Frame) × (frames ≡ others ++ more)
 
--- if memory may be refused to both, the frames of one of them are the first of the other's
+-- of two feeds of the same bytes the frames of one are the first of the other's, also if memory is
+-- refused to both
 abbrev pub FeedsAgree : Type 0
 FeedsAgree = (wide : Bool) (old : Option (List ℕ)) (piece : List ℕ) (answer other : Result (Unit {0}) ReadFault) (frames others : List Frame) (new end : Option (List ℕ)) →
     Feeds wide old piece answer frames new → Feeds wide old piece other others end

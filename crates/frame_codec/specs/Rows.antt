@@ -21,17 +21,17 @@ pub record HasWholeRows (rows : RowList) : Type 0 where
 abbrev pub row_list : ℕ → List Row → RowList
 row_list n rows = record { dimension = n; words = flat_map (λ r. r.number ∷ r.words) rows }
 
--- how many rows there are
+-- how many rows a row list has
 abbrev pub row_count : RowList → ℕ
 row_count rows = length rows.words / (rows.dimension + 1)
 
--- row j of them
+-- row j of a row list
 abbrev pub row_at : RowList → ℕ → Row
 row_at rows j = record {
   number = slice_index rows.words (j * (rows.dimension + 1));
   words = take rows.dimension (drop (j * (rows.dimension + 1) + 1) rows.words);
 }
 
--- the rows
+-- the rows of a row list
 abbrev pub rows_in : RowList → List Row
 rows_in rows = map (row_at rows) (range_with_len 0 (row_count rows))

@@ -235,7 +235,7 @@ pub enum Frame {
         index: u32,
         bytes: Bytes,
     },
-    /// Kind 07: the edits become the next version.
+    /// Kind 07: the edits and the appends become the next version.
     Publish,
     /// Kind 08: the end of a session.
     Bye,
@@ -285,12 +285,12 @@ pub enum Frame {
         version: u64,
         count: u32,
     },
-    /// Kind 87: an edit or a publication is done.
+    /// Kind 87: an edit, an append or a publication is done; this version is current.
     Done {
         version: u64,
     },
-    /// Kind 88: the rows that have changed aren't known or are too many; this version is current,
-    /// with so many records.
+    /// Kind 88: the rows or the records that have changed aren't known or are too many; this
+    /// version is current, with so many records.
     NoDelta {
         version: u64,
         count: u32,

@@ -20,7 +20,7 @@ pub enum Refusal {
     BadIndex,
     /// The bytes can't be a record.
     BadLength,
-    /// No edit was accepted since the last publication.
+    /// No edit and no append was accepted since the last publication.
     NothingToPublish,
     /// There is no further version number.
     VersionsUsedUp,

@@ -28,7 +28,7 @@ word_after_change l a1 r k c x =
     if r / digits_per_record l == c.index % l.groups
     then (x + digit_difference l c (r % digits_per_record l) * entry a1 (column_of l c.index) k) % 2 ^ 32 else x
 
--- after several changes, one after another
+-- word k of row r of a hint after several changes, one after another
 abbrev pub word_after : Shape → WordMatrix → ℕ → ℕ → List ChangedRecord → ℕ → ℕ
 word_after l a1 r k [] x = x
 word_after l a1 r k (c ∷ more) x = word_after l a1 r k more (word_after_change l a1 r k c x)

@@ -36,8 +36,8 @@ accepts_profile p profile =
     then ((profile == 130) || ((profile == 129) && (p.form == 129)))
     else ((profile == 2) || ((profile == 1) && (p.form == 1)))
 
--- whether bytes can be a record: in forms of slots as many as a slot has room for beside the two
--- bytes of their number, in the others exactly as many as a record has
+-- whether bytes can be a record: in forms of slots at most as many as a slot has room for beside
+-- the two bytes of their number, in the others exactly as many as a record has
 unfoldable pub fits : Plan → List ℕ → Bool
 fits p bytes = if is_slotted p.form then nat_le (length bytes + 2) p.record_len else length bytes == p.record_len
 

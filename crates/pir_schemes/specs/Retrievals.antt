@@ -20,7 +20,8 @@ use Rattle.pir_schemes.specs.Plans.{shape_at, digits_at, slots, first_public, se
 
 -- ---- counts, under public matrices of n columns
 
--- how many rows a hint has: one for each row of digits; or one for each digit of n words
+-- how many rows a hint has: of SimplePIR one for each row of digits, of DoublePIR one for each
+-- digit of n words
 abbrev pub hint_rows : Scheme → Shape → ℕ → ℕ
 hint_rows Simple l n = digit_rows l
 hint_rows Double l n = n * split_count l.width

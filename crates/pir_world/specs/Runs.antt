@@ -168,7 +168,8 @@ pub record Receipt : Type 0 where
   pub sends : List Frame
   pub log : List LogEntry
 
--- What client k makes of replies, one after another: the replies after a fault are dropped. What is
+-- What client k makes of replies, one after another: the replies after a fault are dropped. Whether
+-- the client had failed before is not asked, since no client of a run fails (`IsRight`). What is
 -- written down of each reply names the call and the scheme of the hint that there were before it.
 abbrev pub receives : ℕ → ClientState → List Frame → Receipt
 receives k c [] = record { client = c; sends = []; log = [] }

@@ -20,7 +20,7 @@ pub struct LogHeader {
     pub digest: [u8; 32],
     /// The version of the snapshot.
     pub version: u64,
-    /// The key of the public matrices.
+    /// The public seed, which the words of the public matrices come from.
     pub seed: [u8; 32],
 }
 

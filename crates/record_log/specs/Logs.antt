@@ -42,7 +42,7 @@ pub record KeptLog : Type 0 where
   pub most : ℕ
   pub lists : List (List OldRecord)
 
--- those of the newest n publications
+-- of lists for publications, the oldest first, those of the newest n publications
 abbrev pub newest : ℕ → List (List OldRecord) → List (List OldRecord)
 newest n lists = drop (length lists - n) lists
 

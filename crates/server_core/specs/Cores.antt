@@ -80,7 +80,7 @@ FeedsCoreFirst x h old piece (Ok count) store new before after = FeedsStoreFirst
 FeedsCoreFirst x h old piece (Err Memory) store new before after = (e : AllocError) × FeedsStoreFirst x h old piece (Err e) store new before after
 FeedsCoreFirst x h old piece (Err NoSession) store new before after = ⊥
 
--- if there is no session
+-- P, if the answer is that there is no session
 abbrev pub OnNoSession : {T : Type 0} → Result T FeedError → Type 0 → Type 0
 OnNoSession (Ok done) P = Unit {0}
 OnNoSession (Err NoSession) P = P

@@ -68,7 +68,7 @@ hint_part x scheme records part = part_of (hint_words x scheme records) part
 abbrev pub hint_row : Setting → List (List ℕ) → ℕ → Row
 hint_row x records r = record { number = r; words = row (hint_matrix Simple x.plan records) r }
 
--- some of its rows, one after another
+-- some rows of the SimplePIR hint of some records, each with its number, one after another
 unfoldable pub named_hint_rows : Setting → List (List ℕ) → List ℕ → RowList
 named_hint_rows x records rows = row_list x.plan.dimension (map (hint_row x records) rows)
 
@@ -143,12 +143,12 @@ hint_asked x h st (Some scheme) version part =
     else refusal_given refusal.BadPart st h)
     else stale_given st h
 
--- no rows can be given, and the hint has to be fetched whole
+-- what changed can't be given, and the hint has to be fetched whole
 abbrev pub no_delta_given : Standing → History → AfterFrame
 no_delta_given st h = reply_given (NoDelta (current_version h) (length h.current)) st h
 
--- the rows that changed since a version are asked for, and these are they: at most 1024 of them are
--- given, with the words of the current hint
+-- the rows that changed since a version are asked for, and these are they: all are given, with the
+-- words of the current hint, if there are at most 1024 of them, and else none
 abbrev pub delta_asked : Setting → History → Standing → ℕ → Option (List ℕ) → AfterFrame
 delta_asked x h st since None = no_delta_given st h
 delta_asked x h st since (Some rows) =

@@ -49,8 +49,8 @@ AfterReading (Err Failed) middle after more = ⊥
 abbrev pub EndsPiece : Result (Unit {0}) ReadFault → Standing → Standing → List Frame → Type 0
 EndsPiece answer middle after more = MatchBool (is_closed middle) ((after ≡ middle) × (more ≡ [])) (AfterReading answer middle after more)
 
--- If memory was refused: before one of the frames, or after them, if the reading stopped with
--- a fault.
+-- Memory was refused after so many frames of a piece: before another of them, or after them all, if
+-- the reading stopped with a fault.
 abbrev pub IsStop : Result (Unit {0}) ReadFault → List Frame → ℕ → Type 0
 IsStop answer frames count = (count < length frames) ⊎ ((count ≡ length frames) × IsErr answer)
 

@@ -51,7 +51,7 @@ header_of s = record {
   publisher = s.publisher;
 }
 
--- where the digits of its records are
+-- the shape of a snapshot's records
 abbrev pub shape_of : Header → Shape
 shape_of h = shape_in h.form h.width h.record_len h.groups h.count
 
@@ -59,7 +59,7 @@ shape_of h = shape_in h.form h.width h.record_len h.groups h.count
 abbrev pub with_count : ℕ → Header → Header
 with_count n h = record h { count = n }
 
--- how many bytes its records have together
+-- how many bytes the records of a snapshot have together
 abbrev pub records_len : Header → ℕ
 records_len h = h.count * h.record_len
 
@@ -77,7 +77,7 @@ header_bytes h =
     ++ h.seed
     ++ h.publisher
 
--- what the digest is of
+-- the bytes of a snapshot that its digest is made of: the header and the records
 abbrev pub hashed_bytes : Header → List ℕ → List ℕ
 hashed_bytes h records = header_bytes h ++ records
 

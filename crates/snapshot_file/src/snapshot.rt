@@ -33,7 +33,7 @@ pub struct Header {
     pub dimension: u16,
     /// The version of the records, counted from 1.
     pub version: u64,
-    /// The key of the public matrices.
+    /// The public seed, which the words of the public matrices come from.
     pub seed: [u8; 32],
     /// The SHA-256 digest of the publisher's key.
     pub publisher: [u8; 32],
@@ -58,7 +58,7 @@ pub struct Snapshot {
     pub dimension: u16,
     /// The version of the records, counted from 1.
     pub version: u64,
-    /// The key of the public matrices.
+    /// The public seed, which the words of the public matrices come from.
     pub seed: [u8; 32],
     /// The SHA-256 digest of the publisher's key.
     pub publisher: [u8; 32],

@@ -8,7 +8,7 @@ use Rattle.version_store.specs.declared.answer_buffers.AnswerBuffers.{AnswerBuff
 use Rattle.version_store.specs.declared.answer_buffers.AnswerBuffers.TheVariants.{Simple, Double}
 use Rattle.version_store.specs.declared.rows.FollowBuffers.{FollowBuffers}
 
--- the scheme whose answers are made in it
+-- the scheme whose answers are made in this memory
 abbrev pub scheme_answered : AnswerBuffers → Scheme
 scheme_answered (Simple words) = scheme.Simple
 scheme_answered (Double room) = scheme.Double

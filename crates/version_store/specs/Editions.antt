@@ -17,7 +17,7 @@ pub record Records : Type 0 where
   pub plan : Plan
   pub records : List (List ℕ)
 
--- their shape
+-- the shape of the records of one version
 abbrev pub version_shape : Records → Shape
 version_shape e = shape_at e.plan (length e.records)
 

@@ -32,7 +32,7 @@ pub record Unopened : Type 0 where
   pub header : Header
   pub bytes : List ℕ
 
--- the first cause that holds
+-- why no store is opened with a snapshot: the first cause that holds
 abbrev pub IsOpenFault : Header → List ℕ → OpenError → Type 0
 IsOpenFault h records BadLayout = ¬ HasSizes h
 IsOpenFault h records BadVersion = HasSizes h × (h.version ≡ 0)
