@@ -1,6 +1,6 @@
 -- When the writing of a connection is ended as its service stops.
 use Rattle.std.specs.Prelude.{◌≡◌, ◌+◌, ◌-◌, ◌^◌, ◌⊎◌, ℕ, None, Some, false, min}
-use Rattle.connection_turns.specs.Links.{MayRead}
+use Rattle.connection_turns.specs.Connections.{MayRead}
 use Rattle.connection_table.specs.declared.connection.ServedConnection.{ServedConnection}
 use Rattle.connection_table.specs.declared.connection.TurnResult.{TurnResult}
 use Rattle.connection_table.specs.declared.connection.TurnResult.TheVariants.{Over, Waits}

@@ -1,6 +1,6 @@
 -- When something is to be done for a connection, and what becomes of it after a turn.
 use Rattle.std.specs.Prelude.{◌≡◌, ◌≤◌, ◌+◌, ◌-◌, ◌^◌, ℕ, None, min, unwrap_or}
-use Rattle.connection_turns.specs.Links.{MayServe}
+use Rattle.connection_turns.specs.Connections.{MayServe}
 use Rattle.connection_table.specs.declared.connection.ServedConnection.{ServedConnection}
 use Rattle.connection_table.specs.declared.connection.TurnResult.{TurnResult}
 use Rattle.connection_table.specs.declared.connection.TurnResult.TheVariants.{Busy, PutOff, Waits}

@@ -5,7 +5,7 @@ use Rattle.std.specs.List.{FoldsTo}
 use Rattle.std.proofs.lemmas.Bool.{lt-ltb, ltb-true, eq-eqb}
 use Rattle.std.proofs.lemmas.List.{length-append, length-drop, nil_from_length}
 use Rattle.std.proofs.lemmas.Bool.{cases_lt}
-use Rattle.connection_turns.specs.Links.{ConnectionSeen, ConnectionMove, Receives, Ends, Answers, Writes, MovesTo, IsAwaited, ConnectionsAwait, accepted, is_progress}
+use Rattle.connection_turns.specs.Connections.{ConnectionSeen, ConnectionMove, Receives, Ends, Answers, Writes, MovesTo, IsAwaited, ConnectionsAwait, accepted, is_progress}
 
 -- a write leaves all else as it was
 pub write_keeps : (b : Bool) (n now : ℕ) (l : ConnectionSeen)

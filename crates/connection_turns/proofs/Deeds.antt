@@ -12,7 +12,7 @@ use Rattle.server_core.specs.Cores.{Core, session_of}
 use Rattle.server_core.specs.Serving.{Setting, setting_of, is_closed}
 use Rattle.server_core.specs.Sessions.{Session, FeedsSession, FeedsStore}
 use Rattle.server_core.specs.Laws.{FirstsArePieces}
-use Rattle.connection_turns.specs.Links.{ConnectionSeen, after_served_frame}
+use Rattle.connection_turns.specs.Connections.{ConnectionSeen, after_served_frame}
 use Rattle.connection_turns.specs.Runs.{Deed, Opens, Serves, Stops, Closes, Undrafts, DoesToCore, FeedsConnection, Moment, ServesOn, RunStep, DeedsAreOneRun}
 use Rattle.connection_turns.specs.Turns.{served_between, replied_between, ServedFramesAreMoves, ServedFramesAreDeeds}
 

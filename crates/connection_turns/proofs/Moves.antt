@@ -5,7 +5,7 @@ use Rattle.std.proofs.lemmas.List.{append-nil}
 use Rattle.std.proofs.lemmas.List.Concat.{flat_map-append, flat_map-cons}
 use Rattle.std.specs.Prelude.{length, nat_lt}
 use Rattle.connection_turns.proofs.Awaiting.{write_keeps}
-use Rattle.connection_turns.specs.Links.{ConnectionSeen, ConnectionMove, Receives, Ends, Answers, Writes, MovesTo, Keeps, ConnectionsKeep, accepted, bytes_received, bytes_served, bytes_replied, bytes_sent}
+use Rattle.connection_turns.specs.Connections.{ConnectionSeen, ConnectionMove, Receives, Ends, Answers, Writes, MovesTo, Keeps, ConnectionsKeep, accepted, bytes_received, bytes_served, bytes_replied, bytes_sent}
 
 -- one more move
 one : (f : ConnectionMove → List ℕ) (done : List ConnectionMove) (x : ConnectionMove) → flat_map f (done ++ x ∷ []) ≡ flat_map f done ++ f x

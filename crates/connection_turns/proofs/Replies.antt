@@ -16,7 +16,7 @@ use Rattle.version_store.specs.Histories.{History}
 use Rattle.server_core.specs.declared.standing.Standing.{Standing}
 use Rattle.server_core.specs.Serving.{Setting, AfterFrame, IsAfterFrame, ServesAll, is_closed}
 use Rattle.server_core.specs.Sessions.{Session, AfterReading, EndsPiece, ServesFrame, FeedsFirst, frames_taken, reading_end}
-use Rattle.connection_turns.specs.Links.{ConnectionSeen}
+use Rattle.connection_turns.specs.Connections.{ConnectionSeen}
 use Rattle.connection_turns.specs.Turns.{OwedIsBounded}
 
 of_option : (o : Option Frame) → (o2 : List Frame) → o2 ≡ option_to_list o → (o2 ≡ []) ⊎ ((f : Frame) × (o2 ≡ f ∷ []))

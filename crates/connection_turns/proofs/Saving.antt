@@ -2,7 +2,7 @@
 use Rattle.std.proofs.Common.{◌≡◌, ◌+◌, ◌-◌, ℕ, List, [], ◌∷◌, ◌++◌, Result, Ok, Err, inl, inr, refl, sym, ap, subst, arith}
 use Rattle.server_core.specs.Cores.{Core}
 use Rattle.connection_turns.specs.Calls.{DeviceCall, Read, ReadLater, ReadFails, Write, WriteLater, WriteFails, Append, AppendUndone, AppendLost, TakeBack, TakeBackFails}
-use Rattle.connection_turns.specs.Links.{ConnectionSeen}
+use Rattle.connection_turns.specs.Connections.{ConnectionSeen}
 use Rattle.connection_turns.specs.Turns.{ReadsOnce, ServesOnce, Publishes, WritesOnce, TakesTurn, StopsAtFrame}
 use Rattle.connection_turns.specs.Saving.{Notes, saved_after, WritesOnlySaved, SavesBeforeWriting, TurnsSaveBeforeWriting}
 use Rattle.connection_turns.specs.declared.turns.Served.{Served}

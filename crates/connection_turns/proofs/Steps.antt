@@ -11,7 +11,7 @@ use Rattle.server_core.specs.declared.server.FeedError.{FeedError}
 use Rattle.server_core.specs.declared.server.FeedError.TheVariants.{NoSession, Memory}
 use Rattle.server_core.specs.Serving.{Setting, is_closed}
 use Rattle.server_core.specs.Sessions.{Session, FeedsFirst, FeedsStoreFirst}
-use Rattle.connection_turns.specs.Links.{ConnectionSeen, is_progress, after_served_frame}
+use Rattle.connection_turns.specs.Connections.{ConnectionSeen, is_progress, after_served_frame}
 use Rattle.connection_turns.specs.Turns.{ServesNext, StopsNext}
 use Rattle.connection_turns.specs.declared.connection_state.LastProgress.{LastProgress}
 

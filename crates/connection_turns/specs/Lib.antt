@@ -1,6 +1,6 @@
 pub mod Calls
 pub mod Sizes
-pub mod Links
+pub mod Connections
 pub mod Runs
 pub mod Turns
 pub mod Saving

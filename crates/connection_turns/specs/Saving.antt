@@ -2,7 +2,7 @@
 use Rattle.std.specs.Prelude.{◌≡◌, ◌≢◌, ◌-◌, ℕ, List, [], ◌∷◌, ◌++◌, Result, Err}
 use Rattle.server_core.specs.Cores.{Core}
 use Rattle.connection_turns.specs.Calls.{DeviceCall, Write, Append, TakeBack}
-use Rattle.connection_turns.specs.Links.{ConnectionSeen}
+use Rattle.connection_turns.specs.Connections.{ConnectionSeen}
 use Rattle.connection_turns.specs.Turns.{IsTurn}
 use Rattle.connection_turns.specs.declared.turns.Served.{Served}
 use Rattle.connection_turns.specs.declared.turns.Fault.{Fault}

@@ -10,7 +10,7 @@ use Rattle.server_core.specs.Serving.{Setting, setting_of, is_closed}
 use Rattle.server_core.specs.Sessions.{Session, FeedsFirst}
 use Rattle.connection_turns.specs.Calls.{DeviceCall, Read, ReadLater, ReadFails, Write, WriteLater, WriteFails, Append, AppendUndone, AppendLost, TakeBack, TakeBackFails}
 use Rattle.connection_turns.specs.Sizes.{most_owed}
-use Rattle.connection_turns.specs.Links.{ConnectionSeen, MayRead, MayServe, MovesTo, Answers, after_receipt, after_end, after_write, after_served_frame}
+use Rattle.connection_turns.specs.Connections.{ConnectionSeen, MayRead, MayServe, MovesTo, Answers, after_receipt, after_end, after_write, after_served_frame}
 use Rattle.connection_turns.specs.Runs.{DoesToCore, Serves, OthersStay}
 use Rattle.connection_turns.specs.declared.turns.Served.{Served}
 use Rattle.connection_turns.specs.declared.turns.Served.TheVariants.{Done, PutOff}

@@ -4,8 +4,8 @@ ghost use Rattle.std.specs.Prelude.{◌≡◌, ◌≢◌, ◌≤◌, ◌<◌, �
 ghost use Rattle.std.specs.Prelude.{None, [], length, IsTrue, OnOk, OnErr, false};
 ghost use Rattle.server_core.specs.Cores.{session_of, MayWait, PublishesNext};
 ghost use Rattle.server_core.specs.Serving.{PublishesIf};
-ghost use Rattle.connection_turns.specs.Links.{accepted, after_end, after_receipt, after_write};
-ghost use Rattle.connection_turns.specs.Links.{is_progress, IsDone, MayRead, MayServe};
+ghost use Rattle.connection_turns.specs.Connections.{accepted, after_end, after_receipt, after_write};
+ghost use Rattle.connection_turns.specs.Connections.{is_progress, IsDone, MayRead, MayServe};
 ghost use Rattle.connection_turns.specs.Runs.{OthersStay};
 ghost use Rattle.connection_turns.specs.Turns.{AtEach, ServesNext, StopsNext};
 
@@ -45,7 +45,7 @@ struct LastProgress {
 impl Model for ConnectionState {
     ghost use Rattle.std.specs.Prelude.{◌≤◌, length};
     ghost use Rattle.connection_turns.specs.Sizes.{piece_size};
-    ghost use Rattle.connection_turns.specs.Links.{ConnectionSeen};
+    ghost use Rattle.connection_turns.specs.Connections.{ConnectionSeen};
 
     ghost Value = { ConnectionSeen };
 

@@ -1,6 +1,6 @@
 //! Laws of connections. Each function does nothing: its clause is the law.
 
-ghost use Rattle.connection_turns.specs.Links.{ConnectionsAwait, ConnectionsKeep};
+ghost use Rattle.connection_turns.specs.Connections.{ConnectionsAwait, ConnectionsKeep};
 ghost use Rattle.connection_turns.specs.Runs.{DeedsAreOneRun};
 ghost use Rattle.connection_turns.specs.Saving.{TurnsSaveBeforeWriting};
 ghost use Rattle.connection_turns.specs.Turns.{OwedIsBounded, ServedFramesAreDeeds};

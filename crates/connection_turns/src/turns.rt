@@ -3,7 +3,7 @@
 ghost use Rattle.std.specs.Prelude.{◌≡◌, ◌≢◌, ◌+◌, length, None, Err, OnErr};
 ghost use Rattle.server_core.specs.Cores.{session_of, PublishesNext};
 ghost use Rattle.server_core.specs.Serving.{PublishesIf};
-ghost use Rattle.connection_turns.specs.Links.{MayServe};
+ghost use Rattle.connection_turns.specs.Connections.{MayServe};
 ghost use Rattle.connection_turns.specs.Runs.{OthersStay};
 ghost use Rattle.connection_turns.specs.Turns.{EndsAppended, FrameGives, IsTurn, ReadsOnce, ServesOnce};
 ghost use Rattle.connection_turns.specs.Turns.{WritesOnce};

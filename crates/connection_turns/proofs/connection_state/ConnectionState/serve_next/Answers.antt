@@ -1,7 +1,7 @@
 use Rattle.std.proofs.Common.{◌∙◌, ◌-◌, List, length, ap, ℕ}
 use Rattle.std.specs.Prelude.{cond}
 use Rattle.server_core.specs.Serving.{setting_of}
-use Rattle.connection_turns.specs.Links.{ConnectionSeen, is_progress}
+use Rattle.connection_turns.specs.Connections.{ConnectionSeen, is_progress}
 use Rattle.connection_turns.specs.declared.connection_state.LastProgress.{LastProgress}
 use Rattle.connection_turns.proofs.Steps.{serves_next, stops_given, Saw}
 use Rattle.connection_turns.proofs.connection_state.ConnectionState.serve_next.Goals as goal
