@@ -1,6 +1,6 @@
 //! A connection, and its turns.
 
-ghost use Rattle.std.specs.Prelude.{◌≡◌, ◌≢◌, ◌↔◌, None, IfOk, IsTrue, length, true, false};
+ghost use Rattle.std.specs.Prelude.{◌≡◌, ◌≢◌, ◌↔◌, None, Err, IfOk, IsTrue, is_ok, length, true, false};
 ghost use Rattle.server_core.specs.Cores.{session_of};
 ghost use Rattle.connection_turns.specs.Runs.{OthersStay};
 ghost use Rattle.connection_table.specs.Holding.{held_by};
@@ -10,9 +10,12 @@ ghost use Rattle.connection_table.specs.Ending.{EndsWriting, IsServedOut};
 use crate::device::{Device, Saver};
 use crate::report::{Closing, RunFault};
 use crate::saved_server::SavedServer;
+use crate::tallies::Tallies;
 use crate::watch::Watch;
 use connection_turns::{ConnectionState, Fault, PIECE_LEN, Served, turn};
+use lane_kernels::Lanes;
 use mio::net::TcpStream;
+use server_core::ServerCore;
 use std::io::{ErrorKind, Read};
 use std::net::{Shutdown, SocketAddr};
 
@@ -276,25 +279,7 @@ impl ServedConnection {
         self.watch = watch;
         self.readable = readable;
         self.writable = writable;
-        match ended {
-            Ok(served) => Ok((
-                SavedServer {
-                    core,
-                    saver,
-                    counters,
-                },
-                Ok(served),
-            )),
-            Err(Fault::Save) => Err(RunFault::Write),
-            Err(fault) => Ok((
-                SavedServer {
-                    core,
-                    saver,
-                    counters,
-                },
-                Err(fault),
-            )),
-        }
+        server_after(core, saver, counters, ended)
     }
 
     // What is next after a turn.
@@ -358,4 +343,34 @@ impl ServedConnection {
             Err(_) => TurnResult::Over,
         }
     }
+}
+
+/// What goes on after a turn that ended so: a server of these parts, and how the turn ended.
+///
+/// # Errors
+///
+/// `Write` exactly if a publication could not be saved: the parts are let go.
+fn server_after<S: Saver + Drop>(
+    core: ServerCore<Lanes>,
+    saver: S,
+    counters: Tallies,
+    ended: Result<Served, Fault>,
+) -> Result<(SavedServer<S>, Result<Served, Fault>), RunFault>
+    requires saved { ended ≢ Err Fault.Save → S.saved saver ≡ core.store.version }
+    ensures unsaved { ended ≡ Err Fault.Save → result ≡ Err RunFault.Write }
+    ensures goes_on { ended ≢ Err Fault.Save → IsTrue (is_ok result) }
+    ensures core { IfOk result (λ it. it.0.core ≡ core) }
+    ensures saver { IfOk result (λ it. it.0.saver ≡ saver) }
+    ensures counters { IfOk result (λ it. it.0.counters ≡ counters) }
+    ensures ended { IfOk result (λ it. it.1 ≡ ended) }
+{
+    if let Err(Fault::Save) = ended {
+        return Err(RunFault::Write);
+    }
+    let server = SavedServer {
+        core,
+        saver,
+        counters,
+    };
+    Ok((server, ended))
 }
