@@ -1,6 +1,7 @@
 //! A connection, and its turns.
 
-ghost use Rattle.std.specs.Prelude.{◌≡◌, ◌≢◌, ◌↔◌, None, Err, IfOk, IsTrue, is_ok, length, true, false};
+ghost use Rattle.std.specs.Prelude.{◌≡◌, ◌≢◌, ◌↔◌, None, Err, IfOk, IsTrue, is_ok, length};
+ghost use Rattle.std.specs.Prelude.{true, false};
 ghost use Rattle.server_core.specs.Cores.{session_of};
 ghost use Rattle.connection_turns.specs.Runs.{OthersStay};
 ghost use Rattle.connection_table.specs.Holding.{held_by};
