@@ -4,7 +4,8 @@
 //! A client whose seed is a fresh draw of the system's random source, and which counts its
 //! retrievals from 0, needs no number of an earlier run: `laws::only_equal_draws_meet`.
 //!
-//! Its tests are in `tests_session::commands`.
+//! Its tests are in `tests_session::commands`. [`greet_either`] is reached by `pir_client get` alone
+//! (tests/state).
 #![tactic(auto)]
 
 mod commands;

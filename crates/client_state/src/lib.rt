@@ -6,7 +6,7 @@
 //! the hint on; `change_file` has its bytes. No lock is held while anything else is waited for, so
 //! any number of runs may use one folder.
 //!
-//! Its tests are in tests/long/client_state and tests/state.
+//! Its tests are in tests/long/client_state, in `tests_session::folders` and in tests/state.
 #![tactic(auto)]
 
 mod changes;

@@ -5,7 +5,8 @@
 //! takes memory. The loops go over vectors of 8 or 16 words by `std::simd`; what is left after the
 //! last whole vector is done word by word.
 //!
-//! Its tests are in `tests_scheme::lanes`.
+//! Its tests are in `tests_scheme::lanes`; those of products with two vectors at once are in
+//! `tests_scheme::double`.
 #![tactic(auto)]
 
 mod lanes;

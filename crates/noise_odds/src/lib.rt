@@ -13,7 +13,6 @@ ghost use Rattle.noise_odds.specs.Odds.{margin_squared, mean_from, simple_odds, 
 ghost use Rattle.noise_odds.specs.Odds.{worst_from};
 
 // Bits are rounded down, so that odds are never said to be better than they are by the definitions.
-// The tests are in `tests_scheme::sources`.
 
 /// Bits of the odds of one thing.
 #[derive(Clone, Copy, Debug, PartialEq, Eq)]

@@ -1,4 +1,5 @@
-//! Publications saved in the log of a snapshot file, for the loop.
+//! The `LogSaver` of `server_files` as the loop's `Saver`. It needs a type of this crate, since
+//! `server_files` knows nothing of the loop.
 
 use mio_server::{AppendFailed, SaveFailed, Saver};
 use publication_log::LogFile;

@@ -53,7 +53,8 @@ struct Held {
     end: End,
     id: u64,
     state: ConnectionState,
-    // Whether it is the publisher's, who may have edited the draft.
+    // Whether a turn of it began a draft. Pushes come one after another, so no two connections edit
+    // one draft, and this is simpler than what `Watch::note_edit` notes.
     edits: bool,
     // All was written: until this moment what still comes is read and forgotten.
     lingers: Option<u64>,

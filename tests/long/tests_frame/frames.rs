@@ -99,7 +99,7 @@ fn each_kind_encoded(alloc: Global) -> Result<Vec<u8>, Fail> {
     Ok(stream)
 }
 
-/// A frame of each kind.
+/// A frame of each kind that all streams have.
 fn each_kind(alloc: Global) -> Result<Vec<Frame>, Fail> {
     let mut frames = Vec::new(alloc);
     push_asked(alloc, &mut frames)?;
@@ -107,7 +107,7 @@ fn each_kind(alloc: Global) -> Result<Vec<Frame>, Fail> {
     Ok(frames)
 }
 
-/// A frame of each kind that a client sends.
+/// A frame of each kind that a client sends on any stream.
 fn push_asked(alloc: Global, frames: &mut Vec<Frame>) -> Result<(), Fail> {
     frames.push(Frame::Load {
         record_len: 1,
@@ -148,7 +148,7 @@ fn one_row(alloc: Global) -> Result<Rows, Fail> {
     Ok(Rows::new(1, words))
 }
 
-/// A frame of each kind that a server sends.
+/// A frame of each kind that a server sends on any stream.
 fn push_replied(alloc: Global, frames: &mut Vec<Frame>) -> Result<(), Fail> {
     frames.push(Frame::Welcome {
         profile: 1,
