@@ -10,8 +10,8 @@ returns g c =
     let a : WordMatrix = g.S.DigitStore.digits c.args.server_hint.now in
     let x : List ℕ = c.args.part.now in
     let long : length (times_vector a x) ≡ a.rows = length-list_of a.rows (λ i. dot (row a i) x) in
-    let hint : c.split_at_mut-first_answer_words.result.0.now ≡ times_vector a x =
-    c.split_at_mut-first_answer_words.ensures.front
+    let hint : c.split_at_mut-first_words.result.0.now ≡ times_vector a x =
+    c.split_at_mut-first_words.ensures.front
     ∙ ap (λ n. take n c.args.words.now) c.rows.ensures.value
     ∙ c.requires.so_far
     ∙ take_all a.rows (times_vector a x) (omega (arith, long)) in
