@@ -2,7 +2,7 @@
 
 ghost use Rattle.std.specs.Prelude.{◌≡◌, ◌+◌, ◌-◌, ◌^◌, ◌<◌, ◌≤◌, ◌↔◌, [], length, take, IfOk};
 ghost use Rattle.std.specs.Prelude.{IfSome, IsNone, IfNone, map, flat_map};
-ghost use Rattle.hint_update.specs.Logs.{RowLog, with_publication, ReachesBack, lists_since};
+ghost use Rattle.hint_update.specs.Logs.{Log, with_publication, ReachesBack, lists_since};
 ghost use Rattle.hint_update.specs.Logs.{AreRowsOf};
 
 use std::alloc::{AllocError, Global};
@@ -13,7 +13,7 @@ use std::marker::Model;
 const MAX_LISTS: usize = 16;
 
 /// The rows of a hint that each of the latest 16 publications changed, so that a hint of a version
-/// before can be brought forward by these rows alone. A contract sees it as a `RowLog`: the number
+/// before can be brought forward by these rows alone. A contract sees it as a `Log`: the number
 /// of the current version, and the lists of rows, the newest first.
 #[derive(Drop)]
 pub struct DeltaLog {
@@ -25,9 +25,9 @@ pub struct DeltaLog {
 impl Model for DeltaLog {
     ghost use Rattle.std.specs.Prelude.{◌≤◌, length, map};
     ghost use Rattle.std.specs.VecDeque.{deque_capacity};
-    ghost use Rattle.hint_update.specs.Logs.{RowLog};
+    ghost use Rattle.hint_update.specs.Logs.{Log};
 
-    ghost Value = { RowLog };
+    ghost Value = { Log };
 
     ghost view = { λ l. record {
       version = l.version;

@@ -12,7 +12,7 @@ use Rattle.pir_schemes.specs.declared.scheme.Scheme.TheVariants.{Simple}
 use Rattle.pir_schemes.specs.declared.plan.Plan.{Plan}
 use Rattle.pir_schemes.specs.Plans.{shape_at, digits_at}
 use Rattle.pir_schemes.specs.Retrievals.{hint_matrix}
-use Rattle.hint_update.specs.Logs.{RowLog, lists_since}
+use Rattle.hint_update.specs.Logs.{Log, lists_since}
 use Rattle.version_store.specs.Deltas.{padded_row, differs_at, changed_rows, changes_of}
 use Rattle.version_store.proofs.LoggedRows.{union_below, reaches_back, rows_logged, history_rows, rows_as_logged}
 use Rattle.version_store.specs.Histories.{current_version}
@@ -54,7 +54,7 @@ unchanged_since p current (before ∷ past) (suc d) records r below is gone =
     unchanged_since p before past d records r below is both.1
     ∙ same_hint_row p before current r below (kept_row (digits_at p before) (digits_at p current) r below both.0)
 
-some_rows : (n : ℕ) (log : RowLog) (v : ℕ) (rows : List ℕ) → rows_logged n log v ≡ Some rows →
+some_rows : (n : ℕ) (log : Log) (v : ℕ) (rows : List ℕ) → rows_logged n log v ≡ Some rows →
     (reaches_back log v ≡ true) × (rows ≡ union_below n (lists_since log v))
 unfolding rows_logged
 some_rows n log v rows e = by (reaches_back log v) e
@@ -68,7 +68,7 @@ unfolding history_rows
 unchanged_rows_stay p h since rows records given version r below gone =
     let n : ℕ = digit_rows (shape_at p (length h.current)) in
     let changes : List (List ℕ) = changes_of p h.current h.past in
-    let log : RowLog = record { version = current_version h; lists = take 16 changes } in
+    let log : Log = record { version = current_version h; lists = take 16 changes } in
     let d : ℕ = current_version h - since in
     let some = some_rows n log since rows (sym (rows_as_logged p h since) ∙ given) in
     let back = and_parts (nat_le since (current_version h)) (nat_le d (length (take 16 changes))) some.0 in

@@ -9,7 +9,7 @@ use Rattle.std.proofs.lemmas.List.Folds.{list_any-append}
 use Rattle.digit_pack.specs.Layout.{digit_rows}
 use Rattle.pir_schemes.specs.declared.plan.Plan.{Plan}
 use Rattle.pir_schemes.specs.Plans.{shape_at, digits_at}
-use Rattle.hint_update.specs.Logs.{RowLog, lists_since}
+use Rattle.hint_update.specs.Logs.{Log, lists_since}
 use Rattle.version_store.specs.Deltas.{changed_rows, changes_of}
 use Rattle.version_store.specs.Editions.{version_shape}
 use Rattle.version_store.specs.Histories.{StoreState, History, current_version, version_records, next_changes, changed_since, is_recent, delta_rows, kept_log}
@@ -19,16 +19,16 @@ abbrev pub union_below : ℕ → List (List ℕ) → List ℕ
 union_below n lists = filter (λ r. list_any (nat_eq r) (flat_map (λ list. list) lists)) (range_with_len 0 n)
 
 -- whether a log has all publications since a version
-abbrev pub reaches_back : RowLog → ℕ → Bool
+abbrev pub reaches_back : Log → ℕ → Bool
 reaches_back log v = nat_le v log.version && nat_le (log.version - v) (length log.lists)
 
 -- the rows, of n, that the publications since a version changed, ascending; none if the log lacks
 -- one of these
-unfoldable pub rows_logged : ℕ → RowLog → ℕ → Option (List ℕ)
+unfoldable pub rows_logged : ℕ → Log → ℕ → Option (List ℕ)
 rows_logged n log v = if reaches_back log v then Some (union_below n (lists_since log v)) else None
 
 -- the log that a history gives a store
-abbrev pub log_of : Plan → History → RowLog
+abbrev pub log_of : Plan → History → Log
 log_of p h = record { version = current_version h; lists = take 16 (changes_of p h.current h.past) }
 
 -- the rows that it names since a version

@@ -10,7 +10,7 @@ use Rattle.matrix_u32.specs.Matrix.{WordMatrix, widened}
 use Rattle.digit_pack.specs.Layout.{Shape, IsLayout, digit_rows, digit_cols}
 use Rattle.pir_schemes.specs.declared.plan.Plan.{Plan}
 use Rattle.pir_schemes.specs.Plans.{IsPlan, shape_at, digits_at}
-use Rattle.hint_update.specs.Logs.{RowLog, with_publication}
+use Rattle.hint_update.specs.Logs.{Log, with_publication}
 use Rattle.version_store.specs.Deltas.{changed_rows}
 use Rattle.version_store.specs.Drafts.{Changes, FitRecords, grown_to, IsHeld}
 use Rattle.version_store.specs.Editions.{Records, version_shape, MarksChanges, is_marked, marked_rows}
@@ -47,7 +47,7 @@ pushed_rows old grown new draft n l marks before after read none rows ok le wide
     pushed ∙ ap (λ (xs : List ℕ). xs ++ marked_rows read) empty ∙ marked
 
 -- only rows that there are were logged, also after them
-pub held_after_publication : (old new : Records) (draft : List (List ℕ)) (n : ℕ) (log log2 : RowLog) (rows : List ℕ) (changes : Changes) →
+pub held_after_publication : (old new : Records) (draft : List (List ℕ)) (n : ℕ) (log log2 : Log) (rows : List ℕ) (changes : Changes) →
     new ≡ record old { records = draft } → length draft ≡ n → IsLayout (shape_at old.plan n) → rows ≡ changed_rows (digits_at old.plan old.records) (digits_at old.plan draft) →
     log2 ≡ with_publication rows log → FitRecords (grown_to n new) changes →
     All (λ (rows : List ℕ). All (λ r. r < digit_rows (version_shape old)) rows) log.lists → IsHeld new n changes log2.lists
@@ -56,7 +56,7 @@ held_after_publication old new draft n log log2 rows changes is many layout are 
     let Below : List ℕ → Type 0 = λ rows. All (λ r. r < digit_rows (version_shape old)) rows in
     let here : Below rows = subst Below (sym are) (changed_below (digits_at old.plan old.records) (digits_at old.plan draft)) in
     let all : All Below log2.lists =
-    subst (λ (x : RowLog). All Below x.lists) (sym added) (All-take Below 16 (rows ∷ log.lists) (All-cons Below rows log.lists here before)) in
+    subst (λ (x : Log). All Below x.lists) (sym added) (All-take Below 16 (rows ∷ log.lists) (All-cons Below rows log.lists here before)) in
     let long : length new.records ≡ n = ap (λ (x : Records). length x.records) is ∙ many in
     record {
       more = omega (arith, long);

@@ -12,7 +12,7 @@ use Rattle.std.specs.List.Sorted.{IsStrictlyIncreasing}
 use Rattle.std.specs.declared.vec.Vec.{Vec}
 use Rattle.std.specs.declared.alloc.Global.{Global}
 use Rattle.std.specs.declared.alloc.AllocError.{AllocError}
-use Rattle.hint_update.specs.Logs.{RowLog, ReachesBack, lists_since, AreRowsOf}
+use Rattle.hint_update.specs.Logs.{Log, ReachesBack, lists_since, AreRowsOf}
 use Rattle.version_store.proofs.LoggedRows.{union_below, reaches_back, rows_logged}
 
 -- whether a number is in a list
@@ -144,17 +144,17 @@ rows_are_union n lists rows below h =
     (rises (filter (is_in joined) all) (IsStrictlyIncreasing-filter (is_in joined) all (range_rises 0 n))) same
 
 -- ---- what a log returns
-pub reaches : (log : RowLog) (v : ℕ) → reaches_back log v ≡ true → ReachesBack log v
+pub reaches : (log : Log) (v : ℕ) → reaches_back log v ≡ true → ReachesBack log v
 reaches log v e =
     let parts = and_parts (nat_le v log.version) (nat_le (log.version - v) (length log.lists)) e in
     (leb-true v log.version parts.0, leb-true (log.version - v) (length log.lists) parts.1)
 
-reached : (log : RowLog) (v : ℕ) → ReachesBack log v → reaches_back log v ≡ true
+reached : (log : Log) (v : ℕ) → ReachesBack log v → reaches_back log v ≡ true
 reached log v h =
     and_from (nat_le v log.version) (nat_le (log.version - v) (length log.lists)) (le-leb v log.version h.0)
     (le-leb (log.version - v) (length log.lists) h.1)
 
-answer_is : (n : ℕ) (log : RowLog) (v : ℕ) (found : Option (Vec ℕ Global)) → All (λ (rows : List ℕ). All (λ r. r < n) rows) log.lists →
+answer_is : (n : ℕ) (log : Log) (v : ℕ) (found : Option (Vec ℕ Global)) → All (λ (rows : List ℕ). All (λ r. r < n) rows) log.lists →
     (IsNone found ↔ ¬ ReachesBack log v) → IfSome found (λ rows. AreRowsOf (lists_since log v) rows.items) →
     option_map (λ rows. rows.items) found ≡ rows_logged n log v
 unfolding rows_logged
@@ -167,7 +167,7 @@ answer_is n log v (Some rows) below none are =
     (All-take (λ (rows : List ℕ). All (λ r. r < n) rows) (log.version - v) log.lists below) are)
     ∙ sym (ap (λ b. cond b (Some (union_below n (lists_since log v))) None) yes)
 
-pub log_answer : (n : ℕ) (log : RowLog) (v : ℕ) (answer : Result (Option (Vec ℕ Global)) AllocError) →
+pub log_answer : (n : ℕ) (log : Log) (v : ℕ) (answer : Result (Option (Vec ℕ Global)) AllocError) →
     All (λ (rows : List ℕ). All (λ r. r < n) rows) log.lists → IfOk answer (λ found. IsNone found ↔ ¬ ReachesBack log v) →
     IfOk answer (λ found. IfSome found (λ rows. AreRowsOf (lists_since log v) rows.items)) →
     IfOk answer (λ found. option_map (λ rows. rows.items) found ≡ rows_logged n log v)
@@ -175,7 +175,7 @@ log_answer n log v (Ok found) below none rows = answer_is n log v found below no
 log_answer n log v (Err e) below none rows = tt
 
 -- its rows are below n
-rows_below : (n : ℕ) (log : RowLog) (v : ℕ) (found : Option (Vec ℕ Global)) → All (λ (rows : List ℕ). All (λ r. r < n) rows) log.lists →
+rows_below : (n : ℕ) (log : Log) (v : ℕ) (found : Option (Vec ℕ Global)) → All (λ (rows : List ℕ). All (λ r. r < n) rows) log.lists →
     IfSome found (λ rows. AreRowsOf (lists_since log v) rows.items) → IfSome found (λ rows. All (λ r. r < n) rows.items)
 rows_below n log v None below are = tt
 rows_below n log v (Some rows) below are =
@@ -185,7 +185,7 @@ rows_below n log v (Some rows) below are =
     All-weaker (Contains rows.items) (λ r. r < n) (λ r h. All-contains (λ r. r < n) joined r each ((are.each r).0 h)) rows.items
     (All-contains_itself rows.items)
 
-pub answer_below : (n : ℕ) (log : RowLog) (v : ℕ) (answer : Result (Option (Vec ℕ Global)) AllocError) →
+pub answer_below : (n : ℕ) (log : Log) (v : ℕ) (answer : Result (Option (Vec ℕ Global)) AllocError) →
     All (λ (rows : List ℕ). All (λ r. r < n) rows) log.lists →
     IfOk answer (λ found. IfSome found (λ rows. AreRowsOf (lists_since log v) rows.items)) →
     IfOk answer (λ found. IfSome found (λ rows. All (λ r. r < n) rows.items))

@@ -5,7 +5,7 @@ use Rattle.digit_pack.specs.Layout.{digit_rows}
 use Rattle.pir_schemes.specs.declared.plan.Plan.{Plan}
 use Rattle.pir_schemes.specs.Plans.{shape_at, digits_at, slots}
 use Rattle.hint_changes.specs.Changes.{changes_between}
-use Rattle.hint_update.specs.Logs.{RowLog}
+use Rattle.hint_update.specs.Logs.{Log}
 use Rattle.record_log.specs.OldRecords.{OldRecord, entries_bytes}
 use Rattle.version_store.specs.Deltas.{changed_rows, changes_of}
 use Rattle.version_store.specs.Editions.{Records}
@@ -171,5 +171,5 @@ changes_since p h since most =
     then (if nat_le (length (entries_between p h since)) most then Some (entries_between p h since) else None) else None
 
 -- the log that a store keeps
-abbrev pub kept_log : StoreState → RowLog
+abbrev pub kept_log : StoreState → Log
 kept_log s = record { version = s.version; lists = s.log }

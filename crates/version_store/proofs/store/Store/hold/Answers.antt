@@ -9,7 +9,7 @@ use Rattle.version_store.specs.HeldRecords.{bytes_held_by}
 use Rattle.pir_schemes.specs.declared.plan.Plan.{Plan}
 use Rattle.pir_schemes.specs.Plans.{is_slot_of, records_held, shape_at}
 use Rattle.version_store.specs.Drafts.{Changes, draft_of, is_some_change, grown_to}
-use Rattle.hint_update.specs.Logs.{RowLog}
+use Rattle.hint_update.specs.Logs.{Log}
 use Rattle.record_log.specs.OldRecords.{OldRecord}
 use Rattle.record_log.specs.Logs.{KeptLog}
 use Rattle.version_store.specs.OldRecords.{IsOldsLog}
@@ -28,7 +28,7 @@ pub invariant_of-result : goal.invariant_of-result
 invariant_of-result g c =
     let ok = rw c.unwrap-layout.ensures at c.layout.ensures.accepted in
     let n : ℕ = digit_rows (version_shape c.in_ok-edition.edition) in
-    let below : RowLog → Type 0 = λ log. All (λ (rows : List ℕ). All (λ r. r < n) rows) log.lists in
+    let below : Log → Type 0 = λ log. All (λ (rows : List ℕ). All (λ r. r < n) rows) log.lists in
     let h : Header = c.args.header.now in
     let e : Records = c.in_ok-edition.edition in
     let count : c.count-count.result ≡ h.count = c.count-count.ensures.value ∙ ap (λ (l : Shape). l.count) ok.0 in
@@ -58,7 +58,7 @@ returns-clause-held g c =
     let h : Header = c.args.header.now in
     let bytes : List ℕ = bytes_held_by c.args.held in
     let rs : List (List ℕ) = records_held (plan_held h) h.count bytes in
-    let made : Records → Changes → RowLog → List (List OldRecord) → StoreState = λ e cs log olds. record {
+    let made : Records → Changes → Log → List (List OldRecord) → StoreState = λ e cs log olds. record {
       version = log.version;
       edition = e;
       draft = draft_of (grown_to c.count-count.result e).records cs;
@@ -67,7 +67,7 @@ returns-clause-held g c =
       log = log.lists;
       olds = olds;
     } in
-    let none : RowLog = record { version = h.version; lists = [] } in
+    let none : Log = record { version = h.version; lists = [] } in
     let of : Plan → ℕ → Records = λ p n. record { plan = p; records = records_held p n bytes } in
     let plan : Plan = plan_held h in
     let with : List (List ℕ) → StoreState = λ d. record {

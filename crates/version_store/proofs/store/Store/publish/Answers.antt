@@ -2,7 +2,7 @@ use Rattle.std.proofs.Common.{ap, ◌∙◌, sym, arith, ◌≡◌, ◌+◌, ℕ
 use Rattle.std.specs.Prelude.{Result, Err}
 use Rattle.std.proofs.lemmas.Result.{err_from_is_err_and}
 use Rattle.pir_schemes.specs.Plans.{digits_at}
-use Rattle.hint_update.specs.Logs.{RowLog, with_publication}
+use Rattle.hint_update.specs.Logs.{Log, with_publication}
 use Rattle.version_store.specs.declared.store.PublishError.{PublishError}
 use Rattle.version_store.specs.declared.store.PublishError.TheVariants.{Memory, NothingToPublish}
 use Rattle.version_store.specs.Deltas.{changed_rows}
@@ -67,7 +67,7 @@ returns-clause-done g c =
     c.deref.result.now c.in_ok-rows.rows.items c.push_marked.new.rows.items c.layout-layout.ensures.plan c.self.invariant.0.more wide c.apply.ensures.records many
     c.layout-layout.ensures.value c.in_ok-marks.ensures.count c.in_ok-marks.ensures.none c.deref_mut-2.ensures.value c.apply.ensures.marks
     c.deref.ensures.value c.in_ok-rows.ensures.items c.push_marked.ensures in
-    let made : Records → Changes → RowLog → List (List OldRecord) → StoreState = λ e cs log olds. record {
+    let made : Records → Changes → Log → List (List OldRecord) → StoreState = λ e cs log olds. record {
       version = log.version;
       edition = e;
       draft = draft_of (grown_to n e).records cs;
@@ -83,7 +83,7 @@ returns-clause-done g c =
     ∙ ap (draft_olds e) (sym same))
     ∙ newest_kept e draft c.self.inside.olds c.self.invariant.1) in
     let with : List (List ℕ) → Records = λ rs. record e { records = rs } in
-    let logged : RowLog = with_publication rows c.self.inside.log in
+    let logged : Log = with_publication rows c.self.inside.log in
     let ends : List (List ℕ) → StoreState = λ d. record {
       version = c.self.inside.log.version + 1;
       edition = with draft;
