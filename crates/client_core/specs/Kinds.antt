@@ -1,6 +1,7 @@
 -- What each kind of reply leads to during a call: the cases of `reaction_during`, by the fields of
 -- the frame.
 use Rattle.std.specs.Prelude.{ℕ, List, ◌++◌, Option}
+use Rattle.frame_codec.specs.declared.frame.Frame.{Frame}
 use Rattle.frame_codec.specs.declared.frame.Frame.TheVariants as frame
 use Rattle.frame_codec.specs.Rows.{RowList}
 use Rattle.pir_schemes.specs.declared.scheme.Scheme.{Scheme}
@@ -67,3 +68,12 @@ takes_done call c version = reaction_during (frame.Done version) call c
 -- what a Refused leads to during a call
 abbrev pub takes_refused : Call → ClientState → ℕ → AfterReply
 takes_refused call c code = reaction_during (frame.Refused code) call c
+
+-- a reply about the hint: it brings a part of one or moves the one held, or says that it can't be
+-- moved
+abbrev pub IsHintReply : Frame → Type 0
+IsHintReply (frame.HintPart scheme version part words) = Unit {0}
+IsHintReply (frame.Delta since now count rows) = Unit {0}
+IsHintReply (frame.Changes since now count entries) = Unit {0}
+IsHintReply (frame.NoDelta version count) = Unit {0}
+IsHintReply _ = ⊥

@@ -6,6 +6,7 @@ ghost use Rattle.std.specs.List.{flat_map, AllByRecursion};
 ghost use Rattle.frame_codec.specs.declared.frame.Frame.{Frame};
 ghost use Rattle.frame_codec.specs.Frames.{IsFrame, encoding};
 ghost use Rattle.client_core.specs.States.{IsState, KeepsNumber};
+ghost use Rattle.client_core.specs.Kinds.{IsHintReply};
 ghost use Rattle.client_core.specs.Replies.{reaction_to_reply};
 ghost use Rattle.client_core.specs.Feeding.{sends_of, events_of, fault_of, takes_all, ends_with};
 ghost use Rattle.client_core.specs.Feeding.{codec_fault, Follows, BreaksOff};
@@ -20,6 +21,44 @@ use frame_codec::{Frame, ReadFault, write_frame};
 use matrix_u32::Kernel;
 use pir_schemes::Plan;
 use std::alloc::{AllocError, Global};
+
+/// What comes of a reply that is about the hint. If memory is refused, the client stays as it was.
+fn take_hint_reply<K: Kernel>(
+    alloc: Global,
+    kernel: K,
+    state: &mut ClientState,
+    frame: &Frame,
+) -> Result<Reaction, AllocError>
+    requires good { IsState state.old }
+    requires kind { IsHintReply frame.now }
+    ensures state { OnOk result (state.new ≡ (reaction_to_reply state.old frame.now).state) }
+    ensures reaction { IfOk result (λ r. r ≡ (reaction_to_reply state.old frame.now).reaction) }
+    ensures err { OnErr result (state.new ≡ state.old) }
+{
+    match frame {
+        Frame::HintPart {
+            scheme,
+            version,
+            part,
+            words,
+        } => take_part(alloc, state, *scheme, *version, *part, words),
+        Frame::Delta {
+            since,
+            now,
+            count,
+            rows,
+        } => Ok(take_delta(state, *since, *now, *count, rows)),
+        Frame::Changes {
+            since,
+            now,
+            count,
+            entries,
+        } => take_changes(alloc, kernel, state, *since, *now, *count, entries),
+        Frame::NoDelta { version, count } => Ok(take_no_delta(alloc, state, *version, *count)),
+        // No other kind is about the hint.
+        _ => Ok(take_other(state)),
+    }
+}
 
 // What comes of a reply.
 fn take_frame<K: Kernel>(
@@ -54,31 +93,16 @@ fn take_frame<K: Kernel>(
             };
             Ok(take_welcome(state, &plan, *count, *version))
         }
-        Frame::HintPart {
-            scheme,
-            version,
-            part,
-            words,
-        } => take_part(alloc, state, *scheme, *version, *part, words),
         Frame::Answer {
             scheme,
             version,
             words,
         } => take_answer(alloc, kernel, state, *scheme, *version, words),
         Frame::Stale { version, count } => Ok(take_stale(alloc, state, *version, *count)),
-        Frame::Delta {
-            since,
-            now,
-            count,
-            rows,
-        } => Ok(take_delta(state, *since, *now, *count, rows)),
-        Frame::Changes {
-            since,
-            now,
-            count,
-            entries,
-        } => take_changes(alloc, kernel, state, *since, *now, *count, entries),
-        Frame::NoDelta { version, count } => Ok(take_no_delta(alloc, state, *version, *count)),
+        Frame::HintPart { .. }
+        | Frame::Delta { .. }
+        | Frame::Changes { .. }
+        | Frame::NoDelta { .. } => take_hint_reply(alloc, kernel, state, frame),
         Frame::Done { version } => Ok(take_done(state, *version)),
         Frame::Refused { code } => Ok(take_refused(alloc, state, *code)),
         _ => Ok(take_other(state)),
