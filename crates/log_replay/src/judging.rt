@@ -1,11 +1,11 @@
-//! Whether a publication follows a version.
+//! Whether changes can be made, and whether a publication follows a version.
 
 ghost use Rattle.std.specs.Prelude.{◌≡◌, ◌+◌, ◌↔◌, ◌&&◌, ℕ, List, IsTrue, nat_lt, if◌then◌else◌};
-ghost use Rattle.std.specs.Prelude.{true, false};
+ghost use Rattle.std.specs.Prelude.{Some, None, true, false};
 ghost use Rattle.pir_schemes.specs.Plans.{fits};
 ghost use Rattle.publication_log.specs.Publications.{Placed, Published, changes_bytes, AreChanges};
 ghost use Rattle.log_replay.specs.Replays.{IsPublicationOf, has_place, are_changes_of};
-ghost use Rattle.log_replay.specs.Replays.{is_replayable};
+ghost use Rattle.log_replay.specs.Replays.{count_after_all, is_replayable};
 
 use pir_schemes::Plan;
 use publication_log::{Change, Changes, Publication};
@@ -28,7 +28,7 @@ pub(crate) fn is_replayable(
     let Some(_first) = publication.changes.split_first() else {
         return false;
     };
-    are_changes_of(plan, count, publication.changes)
+    judge_changes(plan, count, publication.changes).is_some()
 }
 
 // Whether a version follows another.
@@ -54,8 +54,9 @@ fn is_change_of(plan: &Plan, count: usize, change: &Change<'_>) -> bool
     has_place(plan, count, change.place) && plan.fits(change.bytes)
 }
 
-// How many records there are after a change.
-fn count_after(count: usize, place: u32) -> usize
+/// How many records there are after a change at this place of so many: one more if there was none
+/// of that place.
+pub fn count_after(count: usize, place: u32) -> usize
     ensures { result ≡ if nat_lt place count then count else count + 1 }
 {
     if (place as usize) < count {
@@ -65,20 +66,22 @@ fn count_after(count: usize, place: u32) -> usize
     }
 }
 
-// Whether changes can be made to so many records, one after another.
-fn are_changes_of(plan: &Plan, count: usize, changes: Changes<'_>) -> bool
+/// How many records there are after changes of so many, one after another; `None` if one of them
+/// can't be made. No memory is taken.
+pub fn judge_changes(plan: &Plan, count: usize, changes: Changes<'_>) -> Option<usize>
     ensures { (low : ℕ) (cs : List Placed) → AreChanges low cs →
         changes.entry.rest.now ≡ changes_bytes cs →
-        result ≡ are_changes_of plan.now count cs }
+        result ≡ if are_changes_of plan.now count cs
+        then Some (count_after_all count cs) else None }
 {
     let mut left = changes;
     let mut after = count;
     'changes: while let Some((change, rest)) = left.split_first() {
         if !is_change_of(plan, after, &change) {
-            return false;
+            return None;
         }
         after = count_after(after, change.place);
         left = rest;
     }
-    true
+    Some(after)
 }

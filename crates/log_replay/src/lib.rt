@@ -23,5 +23,6 @@ mod replaying;
 pub use compaction::{earlier_count, replay_first};
 pub use drafting::{DraftFault, draft_publication};
 pub use held::RecordHolder;
+pub use judging::{count_after, judge_changes};
 pub use records::replay_records;
 pub use replaying::{ReplayFault, replay, replay_all};

@@ -9,8 +9,8 @@ ghost use Rattle.publisher_drafts.specs.Merging.{changes_of_map, merged_all, are
 ghost use Rattle.publisher_drafts.specs.Merging.{count_after_entries};
 
 use crate::changes::{ChangeMap, put_entry};
-use crate::judging::judge_entry;
 use crate::laws::merged_alike;
+use log_replay::judge_changes;
 use pir_schemes::Plan;
 use publication_log::Publications;
 use std::alloc::{AllocError, Global};
@@ -92,7 +92,7 @@ fn judge_entries(plan: &Plan, count: usize, entries: Publications<'_>) -> Option
     let mut left = entries;
     let mut after = count;
     'entries: while let Some((entry, rest)) = left.split_first() {
-        let Some(next) = judge_entry(plan, after, entry.changes) else {
+        let Some(next) = judge_changes(plan, after, entry.changes) else {
             return None;
         };
         after = next;

@@ -3,8 +3,9 @@
 ghost use Rattle.std.specs.Prelude.{◌≡◌, ◌<◌, ◌++◌, ◌∷◌, [], List, ℕ, length, IfSome};
 
 use crate::changes::{ChangeMap, put_change};
-use crate::judging::{EditFault, count_after, judge};
+use crate::judging::{EditFault, judge};
 use crate::lines::{is_title, read_line};
+use log_replay::count_after;
 use pir_schemes::Plan;
 use std::alloc::{AllocError, Global};
 use std::collections::BTreeMap;

@@ -1,14 +1,9 @@
 //! Whether a change can be made.
 
-ghost use Rattle.std.specs.Prelude.{◌≡◌, ◌+◌, ◌&&◌, ℕ, List, if◌then◌else◌, nat_lt, Some, None};
-ghost use Rattle.pir_schemes.specs.Plans.{fits};
-ghost use Rattle.publication_log.specs.Publications.{Placed, AreChanges, changes_bytes};
-ghost use Rattle.log_replay.specs.Replays.{are_changes_of, has_place, count_after};
-ghost use Rattle.log_replay.specs.Replays.{count_after_all};
+ghost use Rattle.std.specs.Prelude.{◌≡◌};
 ghost use Rattle.publisher_drafts.specs.Judging.{edit_verdict, append_verdict, verdict};
 
 use pir_schemes::Plan;
-use publication_log::{Change, Changes};
 use thiserror::Error;
 
 /// What is to be changed.
@@ -83,51 +78,4 @@ fn judge_append(plan: &Plan, count: usize, bytes: &[u8]) -> Result<u32, EditFaul
         return Err(EditFault::Full);
     }
     Ok(count as u32)
-}
-
-// Whether so many records have this place, or it is the next one and a layout has room for it.
-fn has_place(plan: &Plan, count: usize, place: u32) -> bool
-    ensures { result ≡ has_place plan.now count place }
-{
-    let place = place as usize;
-    place < count || place == count && plan.has_layout(count + 1)
-}
-
-// Whether a change can be made to so many records.
-fn is_change_of(plan: &Plan, count: usize, change: &Change<'_>) -> bool
-    ensures { result ≡
-        (has_place plan.now count change.now.place && fits plan.now change.now.bytes.now) }
-{
-    has_place(plan, count, change.place) && plan.fits(change.bytes)
-}
-
-/// How many records there are after a change.
-pub fn count_after(count: usize, place: u32) -> usize
-    ensures { result ≡ if nat_lt place count then count else count + 1 }
-{
-    if (place as usize) < count {
-        count
-    } else {
-        count + 1
-    }
-}
-
-/// How many records there are after changes, one after another; `None` if one of them can't be
-/// made.
-pub fn judge_entry(plan: &Plan, count: usize, changes: Changes<'_>) -> Option<usize>
-    ensures { (low : ℕ) (cs : List Placed) → AreChanges low cs →
-        changes.entry.rest.now ≡ changes_bytes cs →
-        result ≡ if are_changes_of plan.now count cs
-        then Some (count_after_all count cs) else None }
-{
-    let mut left = changes;
-    let mut after = count;
-    'changes: while let Some((change, rest)) = left.split_first() {
-        if !is_change_of(plan, after, &change) {
-            return None;
-        }
-        after = count_after(after, change.place);
-        left = rest;
-    }
-    Some(after)
 }

@@ -13,8 +13,8 @@ entries-preserved c = λ link version ps each e.
     let it = c.entries.invariant link version ps each e in
     let split = splits_entries c.entries.left.rest.now it.0 c.in-Some.entry c.in-Some.rest.rest.now it.1 c.in-Some.ensures.some
     (λ none. absurd (let bad = c.in-Some.ensures.none none in cc)) in
-    let found = some_from (are_changes_of c.args.plan.now c.entries.after split.first.changes) c.in-Some-judge_entry.next (count_after_all c.entries.after split.first.changes)
-    (c.in-Some-judge_entry.ensures 0 split.first.changes split.first_is.each.changes split.first_is.changes) in (
+    let found = some_from (are_changes_of c.args.plan.now c.entries.after split.first.changes) c.in-Some-judge_changes.next (count_after_all c.entries.after split.first.changes)
+    (c.in-Some-judge_changes.ensures 0 split.first.changes split.first_is.each.changes split.first_is.changes) in (
       split.others,
       split.others_are,
       it.2
@@ -26,13 +26,13 @@ entries-preserved c = λ link version ps each e.
           ∙ ap (λ (n : ℕ). count_after_entries n split.others) (sym found.1),
     )
 
-pub returns-in_default-judge_entry : goal.returns-in_default-judge_entry
-returns-in_default-judge_entry c = λ link version ps each e.
+pub returns-in_default-judge_changes : goal.returns-in_default-judge_changes
+returns-in_default-judge_changes c = λ link version ps each e.
     let it = c.entries.invariant link version ps each e in
     let split = splits_entries c.entries.left.rest.now it.0 c.in-Some.entry c.in-Some.rest.rest.now it.1 c.in-Some.ensures.some
     (λ none. absurd (let bad = c.in-Some.ensures.none none in cc)) in
     let refused = none_from (are_changes_of c.args.plan.now c.entries.after split.first.changes) (count_after_all c.entries.after split.first.changes)
-    (c.in_default-judge_entry.ensures 0 split.first.changes split.first_is.each.changes split.first_is.changes) in
+    (c.in_default-judge_changes.ensures 0 split.first.changes split.first_is.each.changes split.first_is.changes) in
     let bad : are_entries_of c.args.plan.now c.args.count ps ≡ false = it.2
     ∙ ap (λ (x : List Published). are_entries_of c.args.plan.now c.entries.after x) split.all
     ∙ first_entry_refused c.args.plan.now c.entries.after split.first split.others refused in
