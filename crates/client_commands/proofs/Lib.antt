@@ -5,5 +5,5 @@ pub mod Sendings
 pub mod Speaking
 pub mod Dropping
 pub mod Seeds
-pub mod Histories
+pub mod Steps
 pub mod HintWords

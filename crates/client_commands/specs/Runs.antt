@@ -86,8 +86,8 @@ folder_after folder (Replaces other) = other
 folder_after folder _ = folder
 
 -- the folder and the runs after a step
-abbrev pub world_after : RunsOverFolder → StepOfRun → RunsOverFolder
-world_after w step = record { folder = folder_after w.folder step; runs = runs_after w.runs step }
+abbrev pub runs_over_folder_after : RunsOverFolder → StepOfRun → RunsOverFolder
+runs_over_folder_after w step = record { folder = folder_after w.folder step; runs = runs_after w.runs step }
 
 -- ---- retrievals
 
@@ -108,17 +108,17 @@ abbrev pub asked_at : RunsOverFolder → StepOfRun → List RunRetrieval
 asked_at w (Happens i happening) = asked_by i happening (slice_get w.runs i)
 asked_at w _ = []
 
--- the retrievals of a history, in order
+-- the retrievals of steps, in order
 unfoldable pub retrievals : RunsOverFolder → List StepOfRun → List RunRetrieval
 retrievals w [] = []
-retrievals w (step ∷ steps) = asked_at w step ++ retrievals (world_after w step) steps
+retrievals w (step ∷ steps) = asked_at w step ++ retrievals (runs_over_folder_after w step) steps
 
 -- the bytes that a step draws
 abbrev pub drawn_at : StepOfRun → List (List ℕ)
 drawn_at (Begins draw) = draw ∷ []
 drawn_at _ = []
 
--- the draws of a history, in order: the one at a place is that of the run at this place
+-- the draws of steps, in order: the one at a place is that of the run at this place
 unfoldable pub draws : List StepOfRun → List (List ℕ)
 draws [] = []
 draws (step ∷ steps) = drawn_at step ++ draws steps
@@ -136,7 +136,7 @@ MeetByDraws all [] = Unit {0}
 MeetByDraws all (one ∷ later) =
     AllByRecursion (λ other. one.seed ≡ other.seed → one.number ≡ other.number → HaveOneSeed all one.seed one other) later × MeetByDraws all later
 
--- so it is in every history, whatever stands in the folder
+-- so it is whatever stands in the folder, and whatever steps there are
 abbrev pub OnlyEqualDrawsMeet : Type 0
 OnlyEqualDrawsMeet = (folder : List (List ℕ)) (steps : List StepOfRun) → MeetByDraws (draws steps) (retrievals (runs_over_folder folder) steps)
 
@@ -145,7 +145,7 @@ abbrev pub is_replacement : StepOfRun → Bool
 is_replacement (Replaces folder) = true
 is_replacement _ = false
 
--- a history without what becomes of the folder
+-- steps without those that change the folder alone
 unfoldable pub without_replacements : List StepOfRun → List StepOfRun
 without_replacements [] = []
 without_replacements (step ∷ steps) = if is_replacement step then without_replacements steps else step ∷ without_replacements steps

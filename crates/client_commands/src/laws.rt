@@ -10,10 +10,10 @@ pub fn words_of_a_hint_are_not_sent()
     ensures { WordsOfAHintAreNotSent }
 {}
 
-/// Over every history of runs, side by side or one after another, with crashes, and with copies,
-/// restorations and damage of the folder: two retrievals have the same seed and the same number
-/// only when they are of two runs to which the random source gave the same bytes (`apart`), and
-/// what becomes of the folder changes no seed and no number (`folders`).
+/// Over any runs, side by side or one after another, with crashes, and with copies, restorations
+/// and damage of the folder: two retrievals have the same seed and the same number only when they
+/// are of two runs to which the random source gave the same bytes (`apart`), and what becomes of
+/// the folder changes no seed and no number (`folders`).
 pub fn only_equal_draws_meet()
     ensures apart { OnlyEqualDrawsMeet }
     ensures folders { FoldersChangeNothing }

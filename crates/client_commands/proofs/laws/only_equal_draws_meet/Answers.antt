@@ -1,4 +1,4 @@
-use Rattle.client_commands.proofs.Histories.{only_equal_draws_meet, folders_change_nothing}
+use Rattle.client_commands.proofs.Steps.{only_equal_draws_meet, folders_change_nothing}
 use Rattle.client_commands.proofs.laws.only_equal_draws_meet.Goals as goal
 
 pub returns-clause-apart : goal.returns-clause-apart

@@ -1,11 +1,11 @@
--- Histories of runs: by induction on their steps, from any runs.
+-- The steps of runs over a folder: by induction on them, from any runs.
 use Rattle.std.proofs.Common.{◌≡◌, ◌≤◌, ◌+◌, ◌++◌, ℕ, zero, suc, Bool, true, false, List, [], ◌∷◌, map, Option, Some, None, refl, sym, ap, subst, ◌∙◌, inl, inr, arith, append_assoc}
 use Rattle.std.specs.Prelude.{◌⊎◌, slice_get, if◌then◌else◌}
 use Rattle.std.specs.List.{AllByRecursion}
 use Rattle.client_core.specs.declared.state.ClientState.{ClientState}
 use Rattle.client_core.specs.Calls.{Hello, Sync, Ask, Edit, Append, Publish}
 use Rattle.client_core.specs.Laws.{Happening, Accepted, TurnedDown, Lacking, Replied, Failing, after, numbers_at}
-use Rattle.client_commands.specs.Runs.{RunOfClient, run_of, RunsOverFolder, runs_over_folder, StepOfRun, Begins, Speaks, Happens, TakesUp, Ends, Replaces, run_after, run_holding, run_speaking, run_ended, with_changed, runs_after, world_after, RunRetrieval, asked_by, asked_at, retrievals, drawn_at, draws, HaveOneSeed, MeetByDraws, OnlyEqualDrawsMeet, without_replacements, FoldersChangeNothing}
+use Rattle.client_commands.specs.Runs.{RunOfClient, run_of, RunsOverFolder, runs_over_folder, StepOfRun, Begins, Speaks, Happens, TakesUp, Ends, Replaces, run_after, run_holding, run_speaking, run_ended, with_changed, runs_after, runs_over_folder_after, RunRetrieval, asked_by, asked_at, retrievals, drawn_at, draws, HaveOneSeed, MeetByDraws, OnlyEqualDrawsMeet, without_replacements, FoldersChangeNothing}
 use Rattle.client_commands.proofs.Seeds.{GoesOn, same_client, goes_on}
 
 -- ---- lists
@@ -176,7 +176,7 @@ at_most w (TakesUp i hint) = inl refl
 at_most w (Ends i) = inl refl
 at_most w (Replaces folder) = inl refl
 
--- ---- what a history asks for
+-- ---- what steps ask for
 
 -- a retrieval has the seed of its run, and no number that this has passed
 abbrev IsLater : List RunOfClient → RunRetrieval → Type 0
@@ -202,9 +202,9 @@ all_later : (w : RunsOverFolder) (steps : List StepOfRun) → AllByRecursion (Is
 unfolding retrievals
 all_later w [] = tt
 all_later w (s ∷ ss) =
-    all_append (IsLater w.runs) (asked_at w s) (retrievals (world_after w s) ss) (asked_later w s (at_most w s))
-    (all_of (IsLater (runs_after w.runs s)) (IsLater w.runs) (later_before w.runs (runs_after w.runs s) (runs_go_on w.runs s)) (retrievals (world_after w s) ss)
-    (all_later (world_after w s) ss))
+    all_append (IsLater w.runs) (asked_at w s) (retrievals (runs_over_folder_after w s) ss) (asked_later w s (at_most w s))
+    (all_of (IsLater (runs_after w.runs s)) (IsLater w.runs) (later_before w.runs (runs_after w.runs s) (runs_go_on w.runs s)) (retrievals (runs_over_folder_after w s) ss)
+    (all_later (runs_over_folder_after w s) ss))
 
 -- the seed of a retrieval is that of its run among these
 abbrev IsSeedAmong : List (List ℕ) → RunRetrieval → Type 0
@@ -230,8 +230,8 @@ all_among : (all : List (List ℕ)) (w : RunsOverFolder) (steps : List StepOfRun
 unfolding retrievals
 all_among all w [] is = tt
 all_among all w (s ∷ ss) is =
-    all_append (IsSeedAmong all) (asked_at w s) (retrievals (world_after w s) ss) (asked_among all (draws (s ∷ ss)) w s is (at_most w s))
-    (all_among all (world_after w s) ss (draws_after all w s ss is))
+    all_append (IsSeedAmong all) (asked_at w s) (retrievals (runs_over_folder_after w s) ss) (asked_among all (draws (s ∷ ss)) w s is (at_most w s))
+    (all_among all (runs_over_folder_after w s) ss (draws_after all w s ss is))
 
 -- ---- each retrieval, beside each later one
 
@@ -266,8 +266,8 @@ unfolding retrievals MeetByDraws
 meet all w [] is = tt
 meet all w (s ∷ ss) is =
     let there = draws_after all w s ss is in
-    step_meets all w s (retrievals (world_after w s) ss) (at_most w s) (asked_among all (draws (s ∷ ss)) w s is (at_most w s)) (all_later (world_after w s) ss)
-    (all_among all (world_after w s) ss there) (meet all (world_after w s) ss there)
+    step_meets all w s (retrievals (runs_over_folder_after w s) ss) (at_most w s) (asked_among all (draws (s ∷ ss)) w s is (at_most w s)) (all_later (runs_over_folder_after w s) ss)
+    (all_among all (runs_over_folder_after w s) ss there) (meet all (runs_over_folder_after w s) ss there)
 
 pub only_equal_draws_meet : OnlyEqualDrawsMeet
 only_equal_draws_meet folder steps = meet (draws steps) (runs_over_folder folder) steps refl
