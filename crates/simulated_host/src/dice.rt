@@ -35,7 +35,8 @@ impl Dice {
         self.below(count) == 0
     }
 
-    /// All of so many, mostly; else some of them, and one at least (and one even of none).
+    /// All of so many, three times in four; else a number of them from 1 on, which is 1 also if
+    /// there are none.
     pub fn some_of(&mut self, count: usize) -> usize {
         if self.one_in(4) {
             self.below(count).saturating_add(1)
