@@ -8,6 +8,7 @@ use connection_table::{Closing, RunFault, SavedServer, Saver, ServedConnection};
 use connection_turns::ConnectionState;
 use mio::net::TcpStream;
 use mio::{Interest, Token};
+use service_status::EventLog;
 use service_watch::{Counted, ServiceEvent};
 use std::io;
 use std::io::ErrorKind;
@@ -119,26 +120,12 @@ impl Service {
     {
         let peer = octets_of(address.ip());
         if has_enough(self.limits.most_per_peer, self.places.open_of(&peer)) {
-            note_closing(
-                rt,
-                &mut self.log,
-                &mut server.counters,
-                Closing::TooMany,
-                None,
-                Some(address),
-            );
+            note_unopened(rt, &mut self.log, server, Closing::TooMany, address);
             return;
         }
         let id = self.next_id;
         let Some(next_id) = id.checked_add(1) else {
-            note_closing(
-                rt,
-                &mut self.log,
-                &mut server.counters,
-                Closing::Connect,
-                None,
-                Some(address),
-            );
+            note_unopened(rt, &mut self.log, server, Closing::Connect, address);
             return;
         };
         let both = Interest::READABLE | Interest::WRITABLE;
@@ -147,14 +134,7 @@ impl Service {
             .registry()
             .register(&mut stream, Token(place), both);
         if registered.is_err() || server.open_session(id).is_err() {
-            note_closing(
-                rt,
-                &mut self.log,
-                &mut server.counters,
-                Closing::Connect,
-                None,
-                Some(address),
-            );
+            note_unopened(rt, &mut self.log, server, Closing::Connect, address);
             return;
         }
         self.next_id = next_id;
@@ -174,6 +154,21 @@ impl Service {
         self.schedule.push_ready(place);
         self.put_or_evict(rt, server, place, connection);
     }
+}
+
+/// Says why a connection that was accepted from this address is closed before it has a session, and
+/// counts it. Nothing of the server but its counts changes.
+fn note_unopened<S: Saver>(
+    rt: &HostRuntime,
+    log: &mut EventLog,
+    server: &mut SavedServer<S>,
+    why: Closing,
+    address: SocketAddr,
+)
+    ensures core { server.new.core ≡ server.old.core }
+    ensures saver { server.new.saver ≡ server.old.saver }
+{
+    note_closing(rt, log, &mut server.counters, why, None, Some(address));
 }
 
 // Whether a peer with so many connections may have no more.
