@@ -1,25 +1,18 @@
 //! The current version of a folder, read without its draft.
 
-ghost use Rattle.std.specs.Prelude.{◌≡◌, ◌<◌, IfOk, IfSome};
+ghost use Rattle.std.specs.Prelude.{◌≡◌, ◌<◌, IfOk};
 ghost use Rattle.digit_pack.specs.Layout.{record_at};
-ghost use Rattle.snapshot_file.specs.Snapshots.{IsSnapshot, header_of};
+ghost use Rattle.snapshot_file.specs.Snapshots.{header_of};
 ghost use Rattle.version_store.specs.Openings.{IsSound, plan_held, records_for};
 
-use crate::folder::NO_FILE;
 use command_words::Failure;
 use digit_pack::nth_record;
-use log_replay::{ReplayFault, replay_first};
 use pir_schemes::Plan;
-use publication_log::{Publications, ReadLog, open_log, read_log_file};
-use safe_files::{FileSystem, Place, SteadyFile};
-use server_files::{BAD_LOG, LogSize, OwnFile, OwnLog, log_failure};
-use session_core::{Snapshot, SnapshotFault, read_snapshot_and_digest};
-use std::fs;
-use std::os::unix::fs::MetadataExt;
+use publication_log::{Publications, ReadLog, open_log};
+use safe_files::FileSystem;
+use server_files::{LogSize, OwnFile, OwnLog, ReadPair, log_failure, read_pair};
+use session_core::Snapshot;
 use version_store::plan_in;
-
-/// How often a snapshot is read again that was replaced while it was read.
-const TRIES: u32 = 16;
 
 /// The current version of a folder, and the snapshot and the log that it was read of.
 #[derive(Drop)]
@@ -81,10 +74,7 @@ impl FolderVersion {
     /// How much the log has: nothing if there is no file of it.
     pub fn log_size(&self) -> LogSize {
         match &self.log {
-            Some(log) => LogSize {
-                publications: log.publications().count(),
-                bytes: log.len(),
-            },
+            Some(log) => LogSize::of(log),
             None => LogSize {
                 publications: 0,
                 bytes: 0,
@@ -135,13 +125,18 @@ pub fn open_folder<R: FileSystem>(rt: &R, records: &str) -> Result<FolderVersion
     ensures sound { IfOk result (λ it.
         IsSound (header_of it.snapshot) it.snapshot.records.items) }
 {
-    let place = Place::of(rt, records)?;
-    for _ in 0..TRIES {
-        if let Some(version) = read_pair(rt, &place)? {
-            return Ok(version);
-        }
-    }
-    Err(NO_FILE)
+    let ReadPair {
+        snapshot,
+        since,
+        own,
+        log,
+    } = read_pair(rt, records)?;
+    Ok(FolderVersion {
+        snapshot,
+        since,
+        own,
+        log,
+    })
 }
 
 /// The same, with its last publication on the device, so that it may be pushed: one that failed
@@ -174,84 +169,5 @@ pub fn settle_log<R: FileSystem>(rt: &R, version: &FolderVersion) -> Result<(), 
     match open_log(rt, version.own.name.as_str(), &version.own.header) {
         Ok(_) => Ok(()),
         Err(fault) => Err(log_failure(fault)),
-    }
-}
-
-// The version, unless the snapshot was replaced before its log was read: the old log may be gone
-// then.
-fn read_pair<R: FileSystem>(rt: &R, place: &Place<'_, R>) -> Result<Option<FolderVersion>, Failure>
-    ensures sound { IfOk result (λ it. IfSome it (λ it.
-        IsSound (header_of it.snapshot) it.snapshot.records.items)) }
-{
-    let Ok(mut file) = place.open() else {
-        return Err(NO_FILE);
-    };
-    let (snapshot, digest) = match read_snapshot_and_digest(rt.alloc(), &mut file) {
-        Ok(both) => both,
-        Err(fault) => return Err(snapshot_failure(fault)),
-    };
-    opens_a_store(&snapshot);
-    let own = OwnLog::of(rt.alloc(), place.name(), &snapshot.header(), digest)?;
-    match read_log_file(rt, own.name.as_str(), &own.header) {
-        Ok(None) if is_replaced(rt, place, &file) => Ok(None),
-        Ok(log) => Ok(Some(after_log(snapshot, own, log)?)),
-        Err(fault) => Err(log_failure(fault)),
-    }
-}
-
-// What a file has is what a store is opened with.
-fn opens_a_store(snapshot: &Snapshot)
-    requires { IsSnapshot (header_of snapshot.now) snapshot.now.records.items }
-    ensures { IsSound (header_of snapshot.now) snapshot.now.records.items }
-{}
-
-// Whether another file has the name by now. The number of the one that is open is not given again.
-fn is_replaced<R: FileSystem>(rt: &R, place: &Place<'_, R>, file: &SteadyFile<R::File>) -> bool {
-    match (fs::metadata(rt, place.name()), file.metadata()) {
-        (Ok(there), Ok(own)) => there.ino() != own.ino() || there.dev() != own.dev(),
-        _ => true,
-    }
-}
-
-// A snapshot after the publications of its log.
-fn after_log(
-    snapshot: Snapshot,
-    own: OwnLog,
-    log: Option<ReadLog>,
-) -> Result<FolderVersion, Failure>
-    requires { IsSound (header_of snapshot) snapshot.records.items }
-    ensures { IfOk result (λ it. IsSound (header_of it.snapshot) it.snapshot.records.items) }
-{
-    let since = snapshot.version;
-    let snapshot = match &log {
-        Some(read) => replayed(snapshot, read.publications())?,
-        None => snapshot,
-    };
-    Ok(FolderVersion {
-        snapshot,
-        since,
-        own,
-        log,
-    })
-}
-
-// A snapshot after publications.
-fn replayed(snapshot: Snapshot, publications: Publications<'_>) -> Result<Snapshot, Failure>
-    requires { IsSound (header_of snapshot) snapshot.records.items }
-    ensures { IfOk result (λ it. IsSound (header_of it) it.records.items) }
-{
-    let mut snapshot = snapshot;
-    match replay_first(&mut snapshot, publications, publications.count()) {
-        Ok(()) => Ok(snapshot),
-        Err(ReplayFault::BadPublication) => Err(BAD_LOG),
-        Err(ReplayFault::Memory) => Err(Failure::Memory),
-    }
-}
-
-// The failure that a refused snapshot is.
-fn snapshot_failure(fault: SnapshotFault) -> Failure {
-    match fault {
-        SnapshotFault::Memory => Failure::Memory,
-        fault => Failure::Fault(fault.name()),
     }
 }

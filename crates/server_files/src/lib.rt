@@ -28,7 +28,7 @@ pub use files::{
 };
 pub use logs::{BAD_LOG, OwnLog, log_failure};
 pub use opening::{OpenPair, open_pair};
-pub use pairs::{LogSize, Whole, whole_of};
+pub use pairs::{LogSize, ReadPair, Whole, read_pair, whole_of};
 pub use progress::{InputSize, Pace, ReadProgress, WatchedReader};
 pub use reading_in::{InputFault, Unwritten};
 pub use saving::LogSaver;

@@ -8,8 +8,8 @@ use crate::files::{NO_FILE, snapshot_failure};
 use crate::logs::{OwnLog, log_failure, replay_failure};
 use command_words::Failure;
 use log_replay::replay_first;
-use publication_log::{ReadLog, read_log_file};
-use safe_files::{Place, SteadyFile};
+use publication_log::{Publications, ReadLog, read_log_file};
+use safe_files::{FileSystem, Place, SteadyFile};
 use session_core::{Snapshot, read_snapshot_and_digest};
 use std::fs;
 use std::os::unix::fs::MetadataExt;
@@ -32,6 +32,16 @@ pub struct LogSize {
     pub bytes: usize,
 }
 
+impl LogSize {
+    /// How much was read of a log.
+    pub fn of(log: &ReadLog) -> LogSize {
+        LogSize {
+            publications: log.publications().count(),
+            bytes: log.len(),
+        }
+    }
+}
+
 /// The last version that a file and its log have.
 #[derive(Drop)]
 pub struct Whole {
@@ -41,29 +51,60 @@ pub struct Whole {
     pub log: Option<LogSize>,
 }
 
+/// The last version that a file and its log have, and what that was read of.
+#[derive(Drop)]
+pub struct ReadPair {
+    /// The last version: the snapshot after all publications of the log.
+    pub snapshot: Snapshot,
+    /// The version of the file's own snapshot.
+    pub since: u64,
+    /// The log that the file has, whether there is a file of it or not.
+    pub own: OwnLog,
+    /// What was read of the log; none if there is no file of it.
+    pub log: Option<ReadLog>,
+}
+
 /// The last version that a file and its log have. Another process may serve them meanwhile: neither
 /// is changed, and no lock is taken.
 ///
 /// # Errors
 ///
-/// In this order: `File` if there is no file or its log can't be read, the refusals of the
-/// snapshot, `BadLog`; `Memory`.
+/// Those of [`read_pair`].
 pub fn whole_of(rt: &HostRuntime, name: &str) -> Result<Whole, Failure>
     ensures sound { IfOk result (λ it.
         IsSound (header_of it.snapshot) it.snapshot.records.items) }
     ensures dimension { IfOk result (λ it. it.snapshot.dimension ≤ 1024) }
 {
+    let ReadPair { snapshot, log, .. } = read_pair(rt, name)?;
+    let log = match &log {
+        Some(read) => Some(LogSize::of(read)),
+        None => None,
+    };
+    Ok(Whole { snapshot, log })
+}
+
+/// The last version that a file and its log have, with what it was read of. Another process may
+/// publish meanwhile: neither is changed, and no lock is taken.
+///
+/// # Errors
+///
+/// In this order: `File` if there is no file or its log can't be read, the refusals of the
+/// snapshot, `BadLog`; `Memory`.
+pub fn read_pair<R: FileSystem>(rt: &R, name: &str) -> Result<ReadPair, Failure>
+    ensures sound { IfOk result (λ it.
+        IsSound (header_of it.snapshot) it.snapshot.records.items) }
+{
     let place = Place::of(rt, name)?;
     for _ in 0..TRIES {
-        if let Some(whole) = read_both(rt, &place)? {
-            return Ok(whole);
+        if let Some(pair) = read_both(rt, &place)? {
+            return Ok(pair);
         }
     }
     Err(NO_FILE)
 }
 
 // Both, unless the file was replaced before its log was read: the old log may be gone then.
-fn read_both(rt: &HostRuntime, place: &Place<'_>) -> Result<Option<Whole>, Failure>
+fn read_both<R: FileSystem>(rt: &R, place: &Place<'_, R>) -> Result<Option<ReadPair>, Failure>
     ensures sound { IfOk result (λ it. IfSome it (λ it.
         IsSound (header_of it.snapshot) it.snapshot.records.items)) }
 {
@@ -77,18 +118,14 @@ fn read_both(rt: &HostRuntime, place: &Place<'_>) -> Result<Option<Whole>, Failu
     opens_a_store(&snapshot);
     let own = OwnLog::of(rt.alloc(), place.name(), &snapshot.header(), digest)?;
     match read_log_file(rt, own.name.as_str(), &own.header) {
-        Ok(Some(log)) => Ok(Some(after_log(snapshot, &log)?)),
         Ok(None) if is_replaced(rt, place, &file) => Ok(None),
-        Ok(None) => Ok(Some(Whole {
-            snapshot,
-            log: None,
-        })),
+        Ok(log) => Ok(Some(after_log(snapshot, own, log)?)),
         Err(fault) => Err(log_failure(fault)),
     }
 }
 
 // Whether another file has the name by now. The number of the one that is open is not given again.
-fn is_replaced(rt: &HostRuntime, place: &Place<'_>, file: &SteadyFile) -> bool {
+fn is_replaced<R: FileSystem>(rt: &R, place: &Place<'_, R>, file: &SteadyFile<R::File>) -> bool {
     match (fs::metadata(rt, place.name()), file.metadata()) {
         (Ok(there), Ok(own)) => there.ino() != own.ino() || there.dev() != own.dev(),
         _ => true,
@@ -96,21 +133,31 @@ fn is_replaced(rt: &HostRuntime, place: &Place<'_>, file: &SteadyFile) -> bool {
 }
 
 // A snapshot after the publications of its log.
-fn after_log(snapshot: Snapshot, log: &ReadLog) -> Result<Whole, Failure>
+fn after_log(snapshot: Snapshot, own: OwnLog, log: Option<ReadLog>) -> Result<ReadPair, Failure>
     requires { IsSound (header_of snapshot) snapshot.records.items }
     ensures { IfOk result (λ it. IsSound (header_of it.snapshot) it.snapshot.records.items) }
 {
-    let mut snapshot = snapshot;
-    let publications = log.publications();
-    match replay_first(&mut snapshot, publications, publications.count()) {
-        Ok(()) => {}
-        Err(fault) => return Err(replay_failure(fault)),
-    }
-    Ok(Whole {
+    let since = snapshot.version;
+    let snapshot = match &log {
+        Some(read) => replayed(snapshot, read.publications())?,
+        None => snapshot,
+    };
+    Ok(ReadPair {
         snapshot,
-        log: Some(LogSize {
-            publications: publications.count(),
-            bytes: log.len(),
-        }),
+        since,
+        own,
+        log,
     })
+}
+
+// A snapshot after publications.
+fn replayed(snapshot: Snapshot, publications: Publications<'_>) -> Result<Snapshot, Failure>
+    requires { IsSound (header_of snapshot) snapshot.records.items }
+    ensures { IfOk result (λ it. IsSound (header_of it) it.records.items) }
+{
+    let mut snapshot = snapshot;
+    match replay_first(&mut snapshot, publications, publications.count()) {
+        Ok(()) => Ok(snapshot),
+        Err(fault) => Err(replay_failure(fault)),
+    }
 }
