@@ -4,7 +4,7 @@ use Rattle.std.specs.List.{AllPass}
 use Rattle.std.specs.Result.{result_ok}
 use Rattle.std.specs.Str.{bytes_eq}
 use Rattle.std.specs.Str.Parse.{IsNumeral, digits_value}
-use Rattle.hex.specs.Hex.{decode_of, is_hex_digit}
+use Rattle.hex.specs.Hex.{decode_of, encode_lower, is_hex_digit}
 
 -- bytes, two hex digits each; a dash for none
 abbrev pub bytes_in : List ℕ → Option (List ℕ)
@@ -12,6 +12,10 @@ bytes_in text =
     if bytes_eq text (codes "-") then Some []
     else if length text == 0 then None
     else result_ok (decode_of text)
+
+-- a record's bytes in hex, or a dash if there are none
+unfoldable pub hex_or_dash : List ℕ → List ℕ
+hex_or_dash bytes = if length bytes == 0 then codes "-" else encode_lower bytes
 
 -- a text encodes no bytes that a record may be given as
 abbrev pub IsNoRecord : List ℕ → Type 0

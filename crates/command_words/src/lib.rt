@@ -22,4 +22,6 @@ pub use failed::{Failed, file_failed, printed};
 pub use failure::Failure;
 pub use options::{number_at, option, text_at, verbose_flag, word};
 pub use secrets::{Secret, SecretFiles, key_at, seed_at};
-pub use words::{bytes_from_hex, bytes32_from_hex, decimal, publisher_key, record_bytes};
+pub use words::{
+    bytes_from_hex, bytes32_from_hex, decimal, publisher_key, record_bytes, shown_bytes,
+};

@@ -2,10 +2,11 @@
 
 ghost use Rattle.std.specs.Prelude.{◌≡◌, ◌≢◌, ◌↔◌, ◌<◌, ◌≤◌, ◌^◌, ◌*◌, length, replicate, SomeIff};
 ghost use Rattle.std.specs.Prelude.{IsSome, IfSome, MatchOption, IfOk, Ok, Some, None};
+ghost use Rattle.std.specs.Prelude.{string_bytes};
 ghost use Rattle.std.specs.List.{AllPass};
 ghost use Rattle.std.specs.Str.Parse.{IsNumeral, digits_value};
 ghost use Rattle.hex.specs.Hex.{decode_of, is_hex_digit};
-ghost use Rattle.command_words.specs.Values.{IsNoRecord, bytes_in};
+ghost use Rattle.command_words.specs.Values.{IsNoRecord, bytes_in, hex_or_dash};
 
 use hex::{FromHex, FromHexError};
 use std::alloc::{AllocError, Global};
@@ -74,4 +75,19 @@ pub fn record_bytes(alloc: Global, text: &str) -> Result<Option<Vec<u8>>, AllocE
         (λ bytes. (bytes_in text.now ≡ Some bytes.items) × (length bytes.items ≤ 65535))) }
 {
     Ok(bytes_from_hex(alloc, text)?.filter(|bytes| bytes.len() <= MAX_RECORD_BYTES))
+}
+
+/// A record's bytes in hex, or a dash if there are none.
+///
+/// # Errors
+///
+/// `AllocError` when memory was refused.
+#[tactic(auto, unfolding(crate::specs::Values::hex_or_dash))]
+pub fn shown_bytes(alloc: Global, bytes: &[u8]) -> Result<String, AllocError>
+    ensures { IfOk result (λ text. string_bytes text ≡ hex_or_dash bytes.now) }
+{
+    if bytes.is_empty() {
+        return String::from_str(alloc, NO_BYTES);
+    }
+    hex::encode(alloc, bytes)
 }

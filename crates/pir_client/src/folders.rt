@@ -9,11 +9,10 @@ use crate::server::Address;
 use crate::sessions::{FolderSession, RetrieveError};
 use client_commands::Retrieved;
 use client_state::{Folder, FolderFault, OldFolder};
-use command_words::{Failed, Failure, printed};
+use command_words::{Failed, Failure, printed, shown_bytes};
 use hint_file::state_lines;
 use std::alloc::AllocError;
 use std::random::RandomSource;
-use world_script::shown_bytes;
 
 /// How many more connections are tried when the first leads to a server of an older version: a
 /// balancer may lead to another one.

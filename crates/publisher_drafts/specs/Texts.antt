@@ -1,15 +1,11 @@
 -- What is printed.
-use Rattle.std.specs.Prelude.{ℕ, List, length, ◌++◌, ◌==◌, codes, if◌then◌else◌}
+use Rattle.std.specs.Prelude.{ℕ, List, ◌++◌, codes}
 use Rattle.std.specs.Fmt.{decimal}
-use Rattle.hex.specs.Hex.{encode_lower}
+use Rattle.command_words.specs.Values.{hex_or_dash}
 
 -- the name of a file in a folder
 abbrev pub name_in : List ℕ → List ℕ → List ℕ
 name_in dir name = dir ++ (codes "/" ++ name)
-
--- a record's bytes in hex, or a dash if there are none
-unfoldable pub hex_or_dash : List ℕ → List ℕ
-hex_or_dash bytes = if length bytes == 0 then codes "-" else encode_lower bytes
 
 -- the line of a changed record
 abbrev pub changed_text : ℕ → List ℕ → List ℕ → List ℕ

@@ -19,4 +19,4 @@ pub use changes::{ChangeMap, publication_of, put_change};
 pub use entries::{MergeFault, Merged, merge_entries, merged_of};
 pub use importing::{ImportStop, LineFault, changes_of_lines};
 pub use judging::{EditFault, Target, judge};
-pub use texts::{appended_line, changed_line, shown_bytes};
+pub use texts::{appended_line, changed_line};

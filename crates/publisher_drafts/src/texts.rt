@@ -1,24 +1,10 @@
 //! What is printed.
 
 ghost use Rattle.std.specs.Prelude.{◌≡◌, IfOk, string_bytes};
-ghost use Rattle.publisher_drafts.specs.Texts.{hex_or_dash, changed_text, appended_text};
+ghost use Rattle.publisher_drafts.specs.Texts.{changed_text, appended_text};
 
+use command_words::shown_bytes;
 use std::alloc::{AllocError, Global};
-
-/// A record's bytes in hex, or a dash if there are none.
-///
-/// # Errors
-///
-/// `AllocError` when memory was refused.
-#[tactic(auto, unfolding(crate::specs::Texts::hex_or_dash))]
-pub fn shown_bytes(alloc: Global, bytes: &[u8]) -> Result<String, AllocError>
-    ensures { IfOk result (λ text. string_bytes text ≡ hex_or_dash bytes.now) }
-{
-    if bytes.is_empty() {
-        return String::from_str(alloc, "-");
-    }
-    hex::encode(alloc, bytes)
-}
 
 /// The line of a changed record: its index, its old bytes, its new bytes.
 ///

@@ -8,9 +8,8 @@ use crate::causes::failed_in;
 use crate::diffing::read_folder;
 use crate::folder::records_name;
 use crate::version::{FolderVersion, open_folder};
-use command_words::{Failed, Failure, printed};
+use command_words::{Failed, Failure, printed, shown_bytes};
 use digit_pack::is_slotted;
-use publisher_drafts::shown_bytes;
 use server_files::LogSize;
 use std::alloc::{AllocError, Global};
 

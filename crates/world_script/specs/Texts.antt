@@ -1,7 +1,7 @@
 -- The lines that a rehearsal prints.
-use Rattle.std.specs.Prelude.{ℕ, List, ◌++◌, ◌==◌, cond, codes, length}
+use Rattle.std.specs.Prelude.{ℕ, List, ◌++◌, codes}
 use Rattle.std.specs.Fmt.{decimal}
-use Rattle.hex.specs.Hex.{encode_lower}
+use Rattle.command_words.specs.Values.{hex_or_dash}
 use Rattle.client_core.specs.declared.state.Event.{Event}
 use Rattle.client_core.specs.declared.state.Event.TheVariants as event
 use Rattle.pir_schemes.specs.declared.scheme.Scheme.{Scheme}
@@ -17,10 +17,6 @@ unfoldable pub scheme_name : Scheme → List ℕ
 scheme_name Simple = codes "simple"
 scheme_name Double = codes "double"
 
--- a record's bytes in hex, or a dash if there are none
-unfoldable pub shown_bytes : List ℕ → List ℕ
-shown_bytes bytes = cond (length bytes == 0) (codes "-") (encode_lower bytes)
-
 -- a line about a client
 abbrev pub about_client : ℕ → List ℕ → List ℕ
 about_client client text = codes "client " ++ (decimal client ++ text)
@@ -35,7 +31,7 @@ abbrev pub event_text : ℕ → Event → List ℕ
 event_text client (event.Welcomed version) = about_client client (codes ": welcomed " ++ (decimal version ++ codes "\n"))
 event_text client (event.Synced scheme version) =
     about_client client (codes ": synced " ++ (scheme_name scheme ++ (codes " " ++ (decimal version ++ codes "\n"))))
-event_text client (event.Retrieved index version bytes) = retrieved_text client index version (shown_bytes bytes)
+event_text client (event.Retrieved index version bytes) = retrieved_text client index version (hex_or_dash bytes)
 event_text client (event.Unreadable index version) =
     about_client client (codes ": unreadable " ++ (decimal index ++ (codes " " ++ (decimal version ++ codes "\n"))))
 event_text client (event.Stale version) = about_client client (codes ": stale " ++ (decimal version ++ codes "\n"))

@@ -16,5 +16,5 @@ mod progress;
 mod stop;
 
 pub use input::SCRIPT_LIMIT;
-pub use outcome::{outcome_line, shown_bytes};
+pub use outcome::outcome_line;
 pub use play::{RehearseFault, rehearse};

@@ -4,9 +4,9 @@ ghost use Rattle.std.specs.Prelude.{◌≡◌, IfOk};
 ghost use Rattle.std.specs.String.{string_bytes};
 ghost use Rattle.world_script.specs.Texts.{outcome_text, call_refused_text, event_text};
 ghost use Rattle.world_script.specs.Texts.{refused_world_text, retrieved_text, scheme_name};
-ghost use Rattle.world_script.specs.Texts.{shown_bytes};
 
 use client_core::{Event, Scheme};
+use command_words::shown_bytes;
 use pir_world::Outcome;
 use std::alloc::{AllocError, Global};
 use version_store::OpenError;
@@ -96,17 +96,6 @@ fn retrieved_line(
         retrieved_text client index version shown.now) }
 {
     format!(in alloc; "client {client}: retrieved {index} {version} {shown}\n")
-}
-
-/// A record's bytes in hex, or a dash if there are none.
-#[tactic(auto, unfolding(crate::specs::Texts::shown_bytes))]
-pub fn shown_bytes(alloc: Global, bytes: &[u8]) -> Result<String, AllocError>
-    ensures { IfOk result (λ text. string_bytes text ≡ shown_bytes bytes.now) }
-{
-    if bytes.is_empty() {
-        return String::from_str(alloc, "-");
-    }
-    hex::encode(alloc, bytes)
 }
 
 #[tactic(auto, unfolding(crate::specs::Texts::scheme_name))]
