@@ -12,7 +12,7 @@ use Rattle.frame_codec.specs.Frames.{encoding}
 use Rattle.frame_codec.specs.Streams.{IsFrameOf, Feeds, Arrives, HasFrame}
 use Rattle.frame_codec.proofs.Unique.{reads_sent}
 use Rattle.frame_codec.proofs.Runs.{all_append}
-use Rattle.pir_world.specs.Runs.{Wire, whole, unread, reach, arrived, beyond, sent}
+use Rattle.pir_world.specs.Runs.{Wire, whole_frames, rest_after, bytes_reached, arrived, wire_after, sent}
 use Rattle.pir_world.specs.Sides.{Carries}
 
 prefix_within : (s r l y : List ℕ) → r ++ l ≡ s ++ y → length s ≤ length r → r ≡ s ++ drop (length s) r
@@ -25,9 +25,9 @@ prefix_within (x ∷ s) (z ∷ r) l y e le =
 
 -- up to a rest in which no frame is whole, these are the frames
 pub record Cut (all fs more : List Frame) (n m : ℕ) : Type 0 where
-  pub whole_is : whole all n ≡ fs
-  pub frames_are : (unread all n).frames ≡ more
-  pub got_is : (unread all n).got ≡ m
+  pub whole_is : whole_frames all n ≡ fs
+  pub frames_are : (rest_after all n).frames ≡ more
+  pub got_is : (rest_after all n).got ≡ m
 
 cut_none : (wide : Bool) (more : List Frame) (rest later : List ℕ) → AllByRecursion (IsFrameOf wide) more → rest ++ later ≡ flat_map encoding more → (HasFrame wide rest → ⊥) →
     Cut more [] more (length rest) (length rest)
@@ -55,7 +55,7 @@ cut wide (f ∷ fs) more rest later n all e partial size =
 -- what a delivery of some of the waiting bytes gives
 pub record Delivered (wide : Bool) (reader : Option (List ℕ)) (waiting : List ℕ) (w : Wire) (most : ℕ) (frames : List Frame) : Type 0 where
   pub frames_are : frames ≡ arrived w most
-  pub rest : Carries wide reader waiting (beyond w most)
+  pub rest : Carries wide reader waiting (wire_after w most)
 
 pub delivered : (wide : Bool) (reader : Option (List ℕ)) (waiting : List ℕ) (w : Wire) (most m : ℕ) (frames : List Frame) (new : Option (List ℕ)) →
     m ≡ min most (length waiting) → Carries wide reader waiting w → Feeds wide reader (take m waiting) (Ok tt) frames new
@@ -71,9 +71,9 @@ delivered wide reader waiting w most m frames new size c f =
     let n2 : length c.unfinished + length (take m waiting) ≡ length (flat_map encoding frames) + length g.0 =
     sym (length-append c.unfinished (take m waiting)) ∙ ap length g.1.begins.whole ∙ length-append (flat_map encoding frames) g.0 in
     let n3 : length (take m waiting) ≡ min m (length waiting) = length-take m waiting in
-    let at : reach w most ≡ length (flat_map encoding frames) + length g.0 = omega (arith, n1, n2, n3, size, c.got) in
-    let k = cut wide frames s.0 g.0 (drop m waiting) (reach w most) s.2 later g.1.partial.no_frame at in
-    let k2 : Cut w.frames frames s.0 (reach w most) (length g.0) = subst (λ (x : List Frame). Cut x frames s.0 (reach w most) (length g.0)) (sym s.1) k in
+    let at : bytes_reached w most ≡ length (flat_map encoding frames) + length g.0 = omega (arith, n1, n2, n3, size, c.got) in
+    let k = cut wide frames s.0 g.0 (drop m waiting) (bytes_reached w most) s.2 later g.1.partial.no_frame at in
+    let k2 : Cut w.frames frames s.0 (bytes_reached w most) (length g.0) = subst (λ (x : List Frame). Cut x frames s.0 (bytes_reached w most) (length g.0)) (sym s.1) k in
     record {
       frames_are = sym k2.whole_is;
       rest = record { unfinished = g.0; reader_is = g.2; bytes = rw k2.frames_are later; got = k2.got_is; each = rw k2.frames_are s.2 };

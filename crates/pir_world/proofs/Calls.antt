@@ -22,7 +22,7 @@ use Rattle.client_core.specs.Calls.{call_since, frame_since, call_refusal, sync_
 use Rattle.client_core.specs.Calls.{Hello as hello_call, Sync as sync_call, Ask as ask_call}
 use Rattle.client_core.specs.Replies.{reaction_to_reply}
 use Rattle.client_core.specs.Feeding.{takes_all, fault_of}
-use Rattle.pir_world.specs.Runs.{Wire, ClientLink, LogEntry, sent, arrived, beyond, reacts, reader_key}
+use Rattle.pir_world.specs.Runs.{Wire, ClientLink, LogEntry, sent, arrived, wire_after, reacts, reader_key}
 use Rattle.pir_world.specs.Versions.{seed_of}
 use Rattle.pir_world.specs.Headlines.{IsRight}
 use Rattle.pir_world.specs.Invariants.{CallIs, DeltaIs, GoodHistory, KnownIs, SyncIs, IsReply, outstanding_frame, InFlight, IsDuringCall, LinkInvariant}
@@ -291,16 +291,16 @@ module _ (law : RetrievalGivesTheRecord) (x : Setting) (seeds : List (List ℕ))
 
   reported_flight : (most : ℕ) (call : Call) → call ≡ l.client.call → InFlight x h l.standing (seed_of seeds k) l.client call l.up.frames l.down.frames →
       ReportedLink x seeds h k (link_reported most l) (reported_by k l.client (arrived l.down most))
-  reported_flight most call e (inl p) = let a = none_arrives l.down most p.1 in no_reply (arrived l.down most) (beyond l.down most) a.0 (a.1 ∙ sym p.1)
+  reported_flight most call e (inl p) = let a = none_arrives l.down most p.1 in no_reply (arrived l.down most) (wire_after l.down most) a.0 (a.1 ∙ sym p.1)
   reported_flight most call e (inr p) = elim (one_arrives l.down most p.1.0 p.1.1) [
-    | inl a ↦ no_reply (arrived l.down most) (beyond l.down most) a.0 (a.1 ∙ sym p.1.1)
-    | inr a ↦ one_reply (arrived l.down most) (beyond l.down most) p.1.0 a.0 a.1 p.0
+    | inl a ↦ no_reply (arrived l.down most) (wire_after l.down most) a.0 (a.1 ∙ sym p.1.1)
+    | inr a ↦ one_reply (arrived l.down most) (wire_after l.down most) p.1.0 a.0 a.1 p.0
         (subst (λ (y : Call). IsReply x h l.standing (seed_of seeds k) (scheme_held l.client.hint) y p.1.0) e p.1.2)
   ]
 
   reported_phase : (most : ℕ) (call : Call) → call ≡ l.client.call → IsDuringCall x h l.standing (seed_of seeds k) l.client call l.up.frames l.down.frames →
       ReportedLink x seeds h k (link_reported most l) (reported_by k l.client (arrived l.down most))
-  reported_phase most Idle e p = let a = none_arrives l.down most p.1 in no_reply (arrived l.down most) (beyond l.down most) a.0 (a.1 ∙ sym p.1)
+  reported_phase most Idle e p = let a = none_arrives l.down most p.1 in no_reply (arrived l.down most) (wire_after l.down most) a.0 (a.1 ∙ sym p.1)
   reported_phase most Hello e p = reported_flight most Hello e p
   reported_phase most (Sync scheme v q) e p = reported_flight most (Sync scheme v q) e p
   reported_phase most (Delta since) e p = reported_flight most (Delta since) e p
@@ -370,7 +370,7 @@ pub served_inv : (short : Bool) (most : ℕ) (x : Setting) (seeds : List (List �
     → ServedInv x seeds h seed (link_served x short k most h l) (turn_of x short k most h l).history (turn_of x short k most h l).log
 served_inv short most x seeds k h seed l g i =
     let few = few_frames x h l.standing seed l.client l.client.call l.up.frames l.down.frames i.phase in
-    let s = served_link x seeds k h seed l.standing l.client g short l.client.call l.up.frames (arrived l.up most) (beyond l.up most).frames l.down.frames
+    let s = served_link x seeds k h seed l.standing l.client g short l.client.call l.up.frames (arrived l.up most) (wire_after l.up most).frames l.down.frames
     (split_few l.up most few.0) i.unclosed i.seed_is i.profile_is i.known i.hint i.call i.phase in
     record {
       link = record {

@@ -17,7 +17,7 @@ use Rattle.client_core.specs.declared.state.ClientFault.{ClientFault}
 use Rattle.client_core.specs.declared.state.ClientFault.TheVariants.{Memory}
 use Rattle.client_core.specs.declared.state.Event.{Event}
 use Rattle.client_core.specs.Feeding.{Client, Course, takes_all, FeedsOpen, FeedsFailed, Follows, Gives, ends_with, failing}
-use Rattle.pir_world.specs.Runs.{ClientLink, serves, arrived, beyond, sent}
+use Rattle.pir_world.specs.Runs.{ClientLink, serves, arrived, wire_after, sent}
 use Rattle.pir_schemes.specs.Laws.{RetrievalGivesTheRecord}
 use Rattle.pir_world.specs.Versions.{seed_of}
 use Rattle.pir_world.specs.Invariants.{GoodHistory, LinkInvariant}
@@ -74,7 +74,7 @@ module _ (law : RetrievalGivesTheRecord) (x : Setting) (seeds : List (List ℕ))
           standing_is = i.standing_is;
           up = subst (λ (b : List ℕ). Carries (is_wide_setting x) session.unfinished b (sent l.up (takes_all l.client (arrived l.down most)).sends)) (sym more)
               (carries_more (is_wide_setting x) session.unfinished e.up l.up (takes_all l.client (arrived l.down most)).sends each i.up);
-          down = subst (λ (b : List ℕ). Carries (is_wide_setting x) e2.client.reader b (beyond l.down most)) (sym down) d.rest;
+          down = subst (λ (b : List ℕ). Carries (is_wide_setting x) e2.client.reader b (wire_after l.down most)) (sym down) d.rest;
         };
         events_are = gives.reported ∙ ap (λ (c : Course). c.events) same;
         good = sym (ap (λ (c : Course). c.fault) same) ∙ good;
@@ -193,7 +193,7 @@ module _ (x : Setting) (seeds : List (List ℕ)) (k : ℕ) (h : History) (l : Cl
         end_is = record {
           client_is = ap (λ (c : Client). c.state) client ∙ i.client_is;
           standing_is = ends.0 ∙ t.standing_is;
-          up = subst (λ (b : List ℕ). Carries (is_wide_setting x) after.unfinished b (beyond l.up most)) (sym up) d.rest;
+          up = subst (λ (b : List ℕ). Carries (is_wide_setting x) after.unfinished b (wire_after l.up most)) (sym up) d.rest;
           down = subst (λ (c : Client). Carries (is_wide_setting x) c.reader e2.down (sent l.down (turn_of x t.short k most h l).replies)) (sym client)
               (subst (λ (b : List ℕ). Carries (is_wide_setting x) e.client.reader b (sent l.down (turn_of x t.short k most h l).replies)) (sym written)
               (carries_more (is_wide_setting x) e.client.reader e.down l.down (turn_of x t.short k most h l).replies each i.down));

@@ -23,7 +23,7 @@ use Rattle.client_core.specs.States.{is_wide_client, delta_base}
 use Rattle.client_core.specs.Calls.{ClientCall, Hello, Sync, Ask, Edit, Append, Publish, call_frame, frame_since, sync_frame}
 use Rattle.client_core.specs.Replies.{reaction_to_reply}
 use Rattle.client_core.specs.Feeding.{Course, runs, course_more, takes_all, start, sends_of}
-use Rattle.pir_world.specs.Runs.{ClientLink, Turn, served_or, turn_more, turns, arrived}
+use Rattle.pir_world.specs.Runs.{ClientLink, FramesServed, served_or, with_frame_served, with_frames_served, arrived}
 use Rattle.pir_world.proofs.Links.{turn_of}
 
 -- a frame of a kind that a stream has
@@ -114,10 +114,10 @@ served_known true x h st f = elim (cases_Bool (takes_memory x h st f)) [
   | inr none ↦ rw none (replies_known x h st f)
 ]
 
-turns_known : (x : Setting) (short : Bool) (k : ℕ) (t : Turn) (fs : List Frame) → AllByRecursion (Known (is_wide_setting x)) t.replies →
-    AllByRecursion (Known (is_wide_setting x)) (turns x short k t fs).replies
+turns_known : (x : Setting) (short : Bool) (k : ℕ) (t : FramesServed) (fs : List Frame) → AllByRecursion (Known (is_wide_setting x)) t.replies →
+    AllByRecursion (Known (is_wide_setting x)) (with_frames_served x short k t fs).replies
 turns_known x short k t [] known = known
-turns_known x short k t (f ∷ fs) known = turns_known x short k (turn_more x short k t f) fs (elim (cases_Bool (is_closed t.standing)) [
+turns_known x short k t (f ∷ fs) known = turns_known x short k (with_frame_served x short k t f) fs (elim (cases_Bool (is_closed t.standing)) [
   | inl shut ↦ rw shut known
   | inr open_ ↦ rw open_ (all_append (Known (is_wide_setting x)) t.replies (option_to_list (served_or short x t.history t.standing f).reply) known
       (of_option x (served_or short x t.history t.standing f).reply (served_known short x t.history t.standing f)))

@@ -26,7 +26,7 @@ use Rattle.client_core.specs.Replies.{event_read, reaction_to_reply}
 use Rattle.pir_world.specs.declared.steps.Step.{Step}
 use Rattle.pir_world.specs.declared.steps.Step.TheVariants.{Edit, Append, Publish, Hello, Sync, Ask, ToServer, ToClient}
 use Rattle.pir_world.specs.declared.steps.Outcome.TheVariants.{Published, Reported}
-use Rattle.pir_world.specs.Runs.{State, ClientLink, Turn, LogEntry, Called, Sent, Served, Ended, Plain, serves, arrived, beyond, reports, reacts, state_after, call_at, called_at, served_at, edit_after, publish_after, StepsTo, RunsTo, reader_key, opening, setting_in, append_after}
+use Rattle.pir_world.specs.Runs.{State, ClientLink, FramesServed, LogEntry, Called, Sent, Served, Ended, Plain, serves, arrived, wire_after, reports, reacts, state_after, call_at, called_at, served_at, edit_after, publish_after, StepsTo, RunsTo, reader_key, opening, setting_in, append_after}
 use Rattle.pir_world.specs.Versions.{seed_of}
 use Rattle.pir_world.specs.Headlines.{IsRight, IsRightEvent}
 use Rattle.pir_world.specs.Invariants.{LinkInvariant, EachAfter, WorldInvariant}
@@ -74,7 +74,7 @@ module _ (x : Setting) (seeds : List (List ℕ)) (h : History) where
 few_arrive : (x : Setting) (h : History) (seed : List ℕ) (l : ClientLink) → LinkInvariant x h seed l → (most : ℕ) → IsFew (arrived l.up most)
 few_arrive x h seed l i most =
     let few = (few_frames x h l.standing seed l.client l.client.call l.up.frames l.down.frames i.phase).0 in
-    few_of_split l.up.frames (arrived l.up most) (beyond l.up most).frames few (split_few l.up most few)
+    few_of_split l.up.frames (arrived l.up most) (wire_after l.up most).frames few (split_few l.up most few)
 
 -- ---- the next delivery
 
@@ -83,7 +83,7 @@ one_fresh : (x : Setting) (short : Bool) (k : ℕ) (h : History) (st : Standing)
     AllByRecursion (ReportedUpTo (current_version h)) log → AllByRecursion (IsFreshIn h log) (serves x short k h st fs).log
 one_fresh x short k h st log fs (inl e) reported = rw e tt
 one_fresh x short k h st log fs (inr p) reported =
-    rw p.1 (cond_both (is_closed st) _ _ (λ (t : Turn). AllByRecursion (IsFreshIn h log) t.log) (λ c. tt) (λ c. ((refl, reported), tt)))
+    rw p.1 (cond_both (is_closed st) _ _ (λ (t : FramesServed). AllByRecursion (IsFreshIn h log) t.log) (λ c. tt) (λ c. ((refl, reported), tt)))
 
 pub fresh : RetrievalGivesTheRecord → AnswersAreFresh
 fresh law h records seeds steps s o run short k most l at =
@@ -99,7 +99,7 @@ one_served : (x : Setting) (short : Bool) (k : ℕ) (h : History) (st : Standing
     AllByRecursion (ReportedUpTo (current_version h)) log → EachAfter IsServedFresh log (serves x short k h st fs).log
 one_served x short k h st log fs (inl e) reported = rw e tt
 one_served x short k h st log fs (inr p) reported =
-    rw p.1 (cond_both (is_closed st) _ _ (λ (t : Turn). EachAfter IsServedFresh log t.log) (λ c. tt) (λ c. (reported, tt)))
+    rw p.1 (cond_both (is_closed st) _ _ (λ (t : FramesServed). EachAfter IsServedFresh log t.log) (λ c. tt) (λ c. (reported, tt)))
 
 reports_served : (k : ℕ) (z : Scheme) (c : Call) (reply : Frame) (e : Event) (before : List LogEntry) → IsServedFresh before (reports k z c reply e)
 reports_served k z call.Idle reply e before = tt

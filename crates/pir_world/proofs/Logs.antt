@@ -23,9 +23,9 @@ use Rattle.client_core.specs.Calls.{Ask as ask_call}
 use Rattle.client_core.specs.Replies.{reaction_to_reply}
 use Rattle.client_core.specs.Feeding.{fault_of}
 use Rattle.pir_world.specs.declared.steps.Outcome.TheVariants.{Reported}
-use Rattle.pir_world.specs.Runs.{ClientLink, Turn, AcceptedAsk, LogEntry, Called, Sent, Served, Ended, Plain, turns, turn_more, reports, reacts}
+use Rattle.pir_world.specs.Runs.{ClientLink, FramesServed, AcceptedAsk, LogEntry, Called, Sent, Served, Ended, Plain, with_frames_served, with_frame_served, reports, reacts}
 use Rattle.pir_world.specs.Earlier.{AllWithEarlier, IsAside, IsSentLast, IsServedLast, is_ask, asks_of, hint_after, hint_named, IsAsked, HasEarlier}
-use Rattle.pir_world.specs.Versions.{name_of, seed_of}
+use Rattle.pir_world.specs.Versions.{name_of_hint, seed_of}
 use Rattle.pir_world.specs.Invariants.{IsFrom, LogInvariant, EachAfter}
 use Rattle.pir_world.proofs.Receipts.{reported_by}
 use Rattle.pir_world.proofs.Later.{IsLater}
@@ -129,7 +129,7 @@ pub log_same : (x : Setting) (h : History) (seed : List ℕ) (k : ℕ) (l m : Cl
     → m.down.frames ≡ l.down.frames → LogInvariant x h seed k l log → LogInvariant x h seed k m log
 log_same x h seed k l m log c u d i = record {
   number = ap (λ (y : ClientState). y.number) c ∙ i.number;
-  hint = ap (λ (y : ClientState). name_of y.hint) c ∙ i.hint;
+  hint = ap (λ (y : ClientState). name_of_hint y.hint) c ∙ i.hint;
   sent = λ f e. let s = i.sent f (sym u ∙ e) in (s.0, s.1, subst (λ (y : ClientState). IsFrom x h seed k (scheme_held y.hint) y.call f s.0) (sym c) s.2);
   served = λ r e. let s = i.served r (sym d ∙ e) in (s.0, s.1, s.2, subst (λ (y : ClientState). IsFrom x h seed k (scheme_held y.hint) y.call s.0 s.1) (sym c) s.3);
 }
@@ -160,12 +160,12 @@ module _ (j k : ℕ) (ne : k ≢ j) where
       all_append (IsAside j) (reacts k (scheme_held c.hint) c.call f t.reaction) _ (reacts_aside (scheme_held c.hint) c.call f t.reaction)
       (cond_both (is_some (fault_of t.reaction)) [] (reported_by k t.state fs) (λ es. AllByRecursion (IsAside j) es) (λ e. tt) (λ e. reported_aside t.state fs))
 
-  pub served_asides : (x : Setting) (short : Bool) (t : Turn) (fs : List Frame) → AllByRecursion (IsAside j) t.log
-      → AllByRecursion (IsAside j) (turns x short k t fs).log
+  pub served_asides : (x : Setting) (short : Bool) (t : FramesServed) (fs : List Frame) → AllByRecursion (IsAside j) t.log
+      → AllByRecursion (IsAside j) (with_frames_served x short k t fs).log
   served_asides x short t [] p = p
   served_asides x short t (f ∷ fs) p =
-      served_asides x short (turn_more x short k t f) fs
-      (cond_both (is_closed t.standing) _ _ (λ (u : Turn). AllByRecursion (IsAside j) u.log) (λ e. p)
+      served_asides x short (with_frame_served x short k t f) fs
+      (cond_both (is_closed t.standing) _ _ (λ (u : FramesServed). AllByRecursion (IsAside j) u.log) (λ e. p)
       (λ e. all_append (IsAside j) t.log (Served k f _ _ ∷ []) p (ne, tt)))
 
 -- ---- a later history

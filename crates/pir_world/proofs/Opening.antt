@@ -26,7 +26,7 @@ use Rattle.server_core.specs.Sessions.{Session, new_session}
 use Rattle.pir_world.specs.declared.steps.Outcome.{Outcome}
 use Rattle.pir_world.specs.Runs.{silent}
 use Rattle.pir_world.specs.Sides.{Side, Carries, EndIs, Matched, Implements, fresh_side}
-use Rattle.pir_world.specs.Worlds.{Kept, IsRunOf}
+use Rattle.pir_world.specs.Worlds.{WorldSeen, IsRunOf}
 use Rattle.pir_world.proofs.Keeping.{run_inv}
 use Rattle.pir_world.proofs.Later.{records_at}
 use Rattle.pir_world.proofs.Logs.{all_with_earlier}
@@ -126,7 +126,7 @@ opening_parts h bytes seeds core ends os held stands e at none = record {
   outcomes_are = none;
 }
 
-pub opening_run : (h : Header) (bytes : List ℕ) (seeds : List (List ℕ)) (w : Kept) → IsOpening h bytes → w.header ≡ h → w.records ≡ bytes → w.seeds ≡ seeds →
+pub opening_run : (h : Header) (bytes : List ℕ) (seeds : List (List ℕ)) (w : WorldSeen) → IsOpening h bytes → w.header ≡ h → w.records ≡ bytes → w.seeds ≡ seeds →
     w.steps ≡ [] → Implements (setting_in h) w.core w.ends w.outcomes (opening h bytes seeds)
     → IsRunOf w (opening h bytes seeds)
 opening_run h bytes seeds w o a b d e parts = record {

@@ -7,7 +7,7 @@ use Rattle.client_core.specs.States.{scheme_held}
 use Rattle.client_core.specs.Replies.{AfterReply, reaction_to_reply}
 use Rattle.client_core.specs.Feeding.{Course, start, course_after_reply, course_more, runs, takes_all, sends_of, fault_of}
 use Rattle.client_core.proofs.Courses.{fault_stays}
-use Rattle.pir_world.specs.Runs.{State, ClientLink, LogEntry, Receipt, receives, reacts, arrived, beyond, sent, with_link, received_at}
+use Rattle.pir_world.specs.Runs.{State, ClientLink, LogEntry, Receipt, receives, reacts, arrived, wire_after, sent, with_link, received_at}
 
 -- what client k reports and sends at replies, one after another, up to a fault
 abbrev pub reported_by : ℕ → ClientState → List Frame → List LogEntry
@@ -22,7 +22,7 @@ reported_by_course s k most None = s
 reported_by_course s k most (Some l) =
     let fs = arrived l.down most in
     let t = takes_all l.client fs in
-    with_link s s.history k (record l { client = t.state; up = sent l.up t.sends; down = beyond l.down most }) (reported_by k l.client fs)
+    with_link s s.history k (record l { client = t.state; up = sent l.up t.sends; down = wire_after l.down most }) (reported_by k l.client fs)
 
 -- ---- a course from one without a fault on
 
@@ -121,5 +121,5 @@ received k c (f ∷ fs) =
 pub receipt_at : (s : State) (k most : ℕ) (o : Option ClientLink) → received_at s k most o ≡ reported_by_course s k most o
 receipt_at s k most None = refl
 receipt_at s k most (Some l) =
-    ap (λ (t : Receipt). with_link s s.history k (record l { client = t.client; up = sent l.up t.sends; down = beyond l.down most }) t.log)
+    ap (λ (t : Receipt). with_link s s.history k (record l { client = t.client; up = sent l.up t.sends; down = wire_after l.down most }) t.log)
     (received k l.client (arrived l.down most))

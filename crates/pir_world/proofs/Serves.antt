@@ -23,7 +23,7 @@ use Rattle.client_core.specs.declared.state.Hint.{Hint}
 use Rattle.client_core.specs.declared.state.Call.TheVariants.{Idle, Hello, Sync, Delta, Changes, Ask, Edit, Append, Publish}
 use Rattle.client_core.specs.States.{scheme_held}
 use Rattle.client_core.specs.Calls.{call_words}
-use Rattle.pir_world.specs.Runs.{Turn, AcceptedAsk, Served, served_or, serves, reader_key}
+use Rattle.pir_world.specs.Runs.{FramesServed, AcceptedAsk, Served, served_or, serves, reader_key}
 use Rattle.pir_world.specs.Versions.{HasVersion, IsVersion, HintIs, asked_words}
 use Rattle.pir_world.specs.Headlines.{IsRightReply, IsRight}
 use Rattle.pir_world.specs.Invariants.{GoodHistory, IsKnownOf, KnownIs, SyncIs, AskIs, CallIs, IsReply, outstanding_frame, InFlight, IsDuringCall}
@@ -321,7 +321,7 @@ module _ (x : Setting) (h : History) (seed : List ℕ) (i : ℕ) (s : Scheme) (v
 
 -- ---- what a delivery to the server leaves of a link
 
-pub record ServedLink (x : Setting) (seeds : List (List ℕ)) (h : History) (seed : List ℕ) (st : Standing) (c : ClientState) (call : Call) (t : Turn)
+pub record ServedLink (x : Setting) (seeds : List (List ℕ)) (h : History) (seed : List ℕ) (st : Standing) (c : ClientState) (call : Call) (t : FramesServed)
     (up down : List Frame) : Type 0 where
   pub history_is : t.history ≡ h
   pub unclosed : is_closed t.standing ≡ false

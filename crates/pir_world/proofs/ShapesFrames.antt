@@ -11,7 +11,7 @@ use Rattle.frame_codec.specs.Frames.{kind_of, payload_size, encoding}
 use Rattle.frame_codec.proofs.Prefixes.{encoded_length}
 use Rattle.client_core.specs.Shapes.{FrameShape, shape_of_frame, frame_shape, BlankAnswer, blank_reply}
 use Rattle.client_core.proofs.ShapeLaws.{sized}
-use Rattle.pir_world.specs.Runs.{Wire, whole, unread, reach, arrived, beyond, sent}
+use Rattle.pir_world.specs.Runs.{Wire, whole_frames, rest_after, bytes_reached, arrived, wire_after, sent}
 
 -- the same frame, but for the words of a query or of an answer, of which there are as many
 abbrev pub IsFrameLike : Frame → Frame → Type 0
@@ -83,12 +83,12 @@ same_total (f ∷ fs) (g ∷ gs) p =
 same_total [] (g ∷ gs) p = absurd p
 same_total (f ∷ fs) [] p = absurd p
 
-same_reach : (v w : Wire) (most : ℕ) → IsWireLike v w → reach v most ≡ reach w most
+same_reach : (v w : Wire) (most : ℕ) → IsWireLike v w → bytes_reached v most ≡ bytes_reached w most
 same_reach v w most a =
     ap (λ (n : ℕ). v.got + min most (n - v.got)) (same_total v.frames w.frames a.frames)
     ∙ ap (λ (n : ℕ). n + min most (length (flat_map encoding w.frames) - n)) (sym a.got)
 
-whole_like : (fs gs : List Frame) (n : ℕ) → AreFramesLike fs gs → AreFramesLike (whole fs n) (whole gs n)
+whole_like : (fs gs : List Frame) (n : ℕ) → AreFramesLike fs gs → AreFramesLike (whole_frames fs n) (whole_frames gs n)
 whole_like [] [] n p = tt
 whole_like (f ∷ fs) (g ∷ gs) n p = rw (same_length f g p.0) (elim (cases_Bool (nat_le (length (encoding g)) n)) [
   | inl t ↦ rw t (p.0, whole_like fs gs (n - length (encoding g)) p.1)
@@ -97,7 +97,7 @@ whole_like (f ∷ fs) (g ∷ gs) n p = rw (same_length f g p.0) (elim (cases_Boo
 whole_like [] (g ∷ gs) n p = absurd p
 whole_like (f ∷ fs) [] n p = absurd p
 
-unread_like : (fs gs : List Frame) (n : ℕ) → AreFramesLike fs gs → IsWireLike (unread fs n) (unread gs n)
+unread_like : (fs gs : List Frame) (n : ℕ) → AreFramesLike fs gs → IsWireLike (rest_after fs n) (rest_after gs n)
 unread_like [] [] n p = record { frames = tt; got = refl }
 unread_like (f ∷ fs) (g ∷ gs) n p = rw (same_length f g p.0) (elim (cases_Bool (nat_le (length (encoding g)) n)) [
   | inl t ↦ rw t (unread_like fs gs (n - length (encoding g)) p.1)
@@ -108,7 +108,7 @@ unread_like (f ∷ fs) [] n p = absurd p
 
 -- a delivery cuts such wires alike
 pub arrived_like : (v w : Wire) (most : ℕ) → IsWireLike v w → AreFramesLike (arrived v most) (arrived w most)
-arrived_like v w most a = rw (same_reach v w most a) (whole_like v.frames w.frames (reach w most) a.frames)
+arrived_like v w most a = rw (same_reach v w most a) (whole_like v.frames w.frames (bytes_reached w most) a.frames)
 
-pub beyond_like : (v w : Wire) (most : ℕ) → IsWireLike v w → IsWireLike (beyond v most) (beyond w most)
-beyond_like v w most a = rw (same_reach v w most a) (unread_like v.frames w.frames (reach w most) a.frames)
+pub beyond_like : (v w : Wire) (most : ℕ) → IsWireLike v w → IsWireLike (wire_after v most) (wire_after w most)
+beyond_like v w most a = rw (same_reach v w most a) (unread_like v.frames w.frames (bytes_reached w most) a.frames)

@@ -28,7 +28,7 @@ use Rattle.pir_world.specs.Runs.{
   Called,
   Sent,
   arrived,
-  beyond,
+  wire_after,
   with_link,
   reports,
   reacts,
@@ -148,7 +148,7 @@ taken_like k c d (f ∷ []) (g ∷ g2 ∷ gs) a e few = absurd e.1
 few_arrive : (w : Wire) (most : ℕ) → IsFew w.frames → IsFew (arrived w most)
 few_arrive w most few = of_split (split_few w most few)
   where
-    of_split : Split w.frames (arrived w most) (beyond w most).frames → IsFew (arrived w most)
+    of_split : Split w.frames (arrived w most) (wire_after w most).frames → IsFew (arrived w most)
     of_split (inl p) = inl p.0
     of_split (inr p) = subst (λ (fs : List Frame). IsFew fs) (sym p.0) few
 

@@ -11,7 +11,7 @@ use Rattle.server_core.specs.declared.standing.Standing.{Standing}
 use Rattle.server_core.specs.Serving.{Setting, AfterFrame, after_frame, takes_memory, is_closed}
 use Rattle.server_core.specs.Laws.{AreAlikeReplies}
 use Rattle.server_core.proofs.Alike.{replies_hold_no_index}
-use Rattle.pir_world.specs.Runs.{Turn, LogEntry, Served, served_or, turn_more, turns}
+use Rattle.pir_world.specs.Runs.{FramesServed, LogEntry, Served, served_or, with_frame_served, with_frames_served}
 use Rattle.pir_world.specs.Shapes.{sights, HaveEqualSights, HadMemory}
 use Rattle.pir_world.proofs.ShapesFrames.{IsFrameLike, same_frame, same_shape, AreFramesLike, like_append}
 
@@ -73,7 +73,7 @@ outcome_like x h st f g e =
 
 -- ---- frames one after another
 
-pub record IsTurnLike (t u : Turn) : Type 0 where
+pub record IsTurnLike (t u : FramesServed) : Type 0 where
   pub history : u.history ≡ t.history
   pub standing : u.standing ≡ t.standing
   pub replies : AreFramesLike t.replies u.replies
@@ -94,8 +94,8 @@ served_equal k f g now (Some r) None e = absurd e
 module _ (x : Setting) (k : ℕ) where
   turn_like_at : (h : History) (st : Standing) (rs qs : List Frame) (log log2 : List LogEntry) (f g : Frame)
       → AreFramesLike rs qs → HaveEqualSights log log2 → IsFrameLike f g
-      → IsTurnLike (turn_more x false k (record { history = h; standing = st; replies = rs; log = log }) f)
-      (turn_more x false k (record { history = h; standing = st; replies = qs; log = log2 }) g)
+      → IsTurnLike (with_frame_served x false k (record { history = h; standing = st; replies = rs; log = log }) f)
+      (with_frame_served x false k (record { history = h; standing = st; replies = qs; log = log2 }) g)
   turn_like_at h st rs qs log log2 f g a b e = elim (cases_Bool (is_closed st)) [
     | inl c ↦ rw c (record { history = refl; standing = refl; replies = a; log = b })
     | inr c ↦
@@ -108,30 +108,30 @@ module _ (x : Setting) (k : ℕ) where
         })
   ]
 
-  turn_like : (t u : Turn) (f g : Frame) → IsTurnLike t u → IsFrameLike f g → IsTurnLike (turn_more x false k t f) (turn_more x false k u g)
+  turn_like : (t u : FramesServed) (f g : Frame) → IsTurnLike t u → IsFrameLike f g → IsTurnLike (with_frame_served x false k t f) (with_frame_served x false k u g)
   turn_like t u f g a e =
-      let P : History → Standing → Type 0 = λ h st. IsTurnLike (turn_more x false k t f)
-      (turn_more x false k (record { history = h; standing = st; replies = u.replies; log = u.log }) g) in
+      let P : History → Standing → Type 0 = λ h st. IsTurnLike (with_frame_served x false k t f)
+      (with_frame_served x false k (record { history = h; standing = st; replies = u.replies; log = u.log }) g) in
       subst (λ (h : History). P h u.standing) (sym a.history) (subst (λ (st : Standing). P t.history st) (sym a.standing)
       (turn_like_at t.history t.standing t.replies u.replies t.log u.log f g a.replies a.log e))
 
-  pub turns_like : (t u : Turn) (fs gs : List Frame) → IsTurnLike t u → AreFramesLike fs gs → IsTurnLike (turns x false k t fs) (turns x false k u gs)
+  pub turns_like : (t u : FramesServed) (fs gs : List Frame) → IsTurnLike t u → AreFramesLike fs gs → IsTurnLike (with_frames_served x false k t fs) (with_frames_served x false k u gs)
   turns_like t u [] [] a e = a
-  turns_like t u (f ∷ fs) (g ∷ gs) a e = turns_like (turn_more x false k t f) (turn_more x false k u g) fs gs (turn_like t u f g a e.0) e.1
+  turns_like t u (f ∷ fs) (g ∷ gs) a e = turns_like (with_frame_served x false k t f) (with_frame_served x false k u g) fs gs (turn_like t u f g a e.0) e.1
   turns_like t u [] (g ∷ gs) a e = absurd e
   turns_like t u (f ∷ fs) [] a e = absurd e
 
   -- ---- where the server is out of memory and yet refuses nobody for it
 
-  more_kept : (P : LogEntry → Type 0) (short : Bool) (t : Turn) (f : Frame) → AllByRecursion P (turn_more x short k t f).log → AllByRecursion P t.log
+  more_kept : (P : LogEntry → Type 0) (short : Bool) (t : FramesServed) (f : Frame) → AllByRecursion P (with_frame_served x short k t f).log → AllByRecursion P t.log
   more_kept P short t f a = elim (cases_Bool (is_closed t.standing)) [
     | inl c ↦ rw c at a
     | inr c ↦ let b = rw c at a in all_first P t.log _ b
   ]
 
-  turns_kept : (P : LogEntry → Type 0) (short : Bool) (t : Turn) (fs : List Frame) → AllByRecursion P (turns x short k t fs).log → AllByRecursion P t.log
+  turns_kept : (P : LogEntry → Type 0) (short : Bool) (t : FramesServed) (fs : List Frame) → AllByRecursion P (with_frames_served x short k t fs).log → AllByRecursion P t.log
   turns_kept P short t [] a = a
-  turns_kept P short t (f ∷ fs) a = more_kept P short t f (turns_kept P short (turn_more x short k t f) fs a)
+  turns_kept P short t (f ∷ fs) a = more_kept P short t f (turns_kept P short (with_frame_served x short k t f) fs a)
 
   served_same : (h : History) (st : Standing) (f : Frame) → HadMemory (Served k f (current_version h) (served_or true x h st f).reply)
       → served_or true x h st f ≡ served_or false x h st f
@@ -140,13 +140,13 @@ module _ (x : Setting) (k : ℕ) where
     | inr c ↦ rw c refl
   ]
 
-  more_same : (t : Turn) (f : Frame) → AllByRecursion HadMemory (turn_more x true k t f).log → turn_more x true k t f ≡ turn_more x false k t f
+  more_same : (t : FramesServed) (f : Frame) → AllByRecursion HadMemory (with_frame_served x true k t f).log → with_frame_served x true k t f ≡ with_frame_served x false k t f
   more_same t f a = elim (cases_Bool (is_closed t.standing)) [
     | inl c ↦ rw c refl
     | inr c ↦
         let b = rw c at a in
         let e = served_same t.history t.standing f (all_last HadMemory t.log _ b).0 in
-        let turned : AfterFrame → Turn = λ o. record {
+        let turned : AfterFrame → FramesServed = λ o. record {
           history = o.history;
           standing = o.standing;
           replies = t.replies ++ option_to_list o.reply;
@@ -155,8 +155,8 @@ module _ (x : Setting) (k : ℕ) where
         rw c (ap turned e)
   ]
 
-  pub turns_same : (t : Turn) (fs : List Frame) → AllByRecursion HadMemory (turns x true k t fs).log → turns x true k t fs ≡ turns x false k t fs
+  pub turns_same : (t : FramesServed) (fs : List Frame) → AllByRecursion HadMemory (with_frames_served x true k t fs).log → with_frames_served x true k t fs ≡ with_frames_served x false k t fs
   turns_same t [] a = refl
   turns_same t (f ∷ fs) a =
-      turns_same (turn_more x true k t f) fs a
-      ∙ ap (λ (u : Turn). turns x false k u fs) (more_same t f (turns_kept HadMemory true (turn_more x true k t f) fs a))
+      turns_same (with_frame_served x true k t f) fs a
+      ∙ ap (λ (u : FramesServed). with_frames_served x false k u fs) (more_same t f (turns_kept HadMemory true (with_frame_served x true k t f) fs a))

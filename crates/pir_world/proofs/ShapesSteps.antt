@@ -18,7 +18,7 @@ use Rattle.pir_world.specs.Runs.{
   ClientLink,
   LogEntry,
   Plain,
-  Turn,
+  FramesServed,
   state_after,
   called_at,
   served_at,
@@ -29,7 +29,7 @@ use Rattle.pir_world.specs.Runs.{
   append_after,
   publish_after,
   arrived,
-  beyond,
+  wire_after,
   sent,
   reader_key,
   StepsTo,
@@ -176,8 +176,8 @@ module _ (x : Setting) (s : State) where
       → served_at x true s k most o ≡ served_at x false s k most o
   delivery_same k most None all = refl
   delivery_same k most (Some l) all =
-      let link : Turn → ClientLink = λ t. record { client = l.client; standing = t.standing; up = beyond l.up most; down = sent l.down t.replies } in
-      let turned : Turn → State = λ t. with_link s t.history k (link t) t.log in
+      let link : FramesServed → ClientLink = λ t. record { client = l.client; standing = t.standing; up = wire_after l.up most; down = sent l.down t.replies } in
+      let turned : FramesServed → State = λ t. with_link s t.history k (link t) t.log in
       ap turned (turns_same x k _ (arrived l.up most) (all_last HadMemory s.log _ all))
 
   short_same : (step : Step) → AllByRecursion HadMemory (state_after x true s step).log → state_after x true s step ≡ state_after x false s step

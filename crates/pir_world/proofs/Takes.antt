@@ -54,7 +54,7 @@ use Rattle.pir_world.proofs.ChangedRecords.{entries_good, slots_good}
 use Rattle.digit_pack.proofs.Layouts.{layout_accepted}
 use Rattle.pir_world.specs.Runs.{AcceptedAsk, LogEntry, reacts}
 use Rattle.pir_world.specs.Earlier.{hint_after}
-use Rattle.pir_world.specs.Versions.{HasVersion, HintIs, asked_words, given_words, name_of, record_read, seed_of}
+use Rattle.pir_world.specs.Versions.{HasVersion, HintIs, asked_words, given_words, name_of_hint, record_read, seed_of}
 use Rattle.pir_world.specs.Headlines.{IsRight, IsAnswered}
 use Rattle.pir_world.specs.Invariants.{AreRecordsOf, IsChangesTo, GoodHistory, IsKnownOf, KnownIs, SyncIs, DeltaIs, IsDeltaTo, CallIs, IsReply, IsFrom, IsDuringCall, welcome_frame}
 use Rattle.pir_world.proofs.Later.{version_positive, one_version}
@@ -90,7 +90,7 @@ pub record IsTaken (x : Setting) (seeds : List (List ℕ)) (k : ℕ) (h : Histor
   pub phase : IsDuringCall x h st (seed_of seeds k) t.state t.state.call (sends_of t.reaction) []
   pub right : AllByRecursion (IsRight x seeds h) (reacts k (scheme_held c.hint) call reply t.reaction)
   pub number : t.state.number ≡ c.number
-  pub told : name_of t.state.hint ≡ fold (hint_after k) (name_of c.hint) (reacts k (scheme_held c.hint) call reply t.reaction)
+  pub told : name_of_hint t.state.hint ≡ fold (hint_after k) (name_of_hint c.hint) (reacts k (scheme_held c.hint) call reply t.reaction)
   pub asks : (scheme : Scheme) (version part : ℕ) → t.reaction ≡ Asks scheme version part → IsPartBefore call reply scheme version part
   pub next : (f : Frame) (first : List LogEntry) → sends_of t.reaction ≡ f ∷ [] → IsFrom x h (seed_of seeds k) k (scheme_held t.state.hint) t.state.call f first
 

@@ -25,9 +25,9 @@ use Rattle.client_core.specs.Calls.{ClientCall, call_since, frame_since, sync_be
 use Rattle.client_core.specs.Calls.{Hello as hello_call, Sync as sync_call, Ask as ask_call}
 use Rattle.client_core.specs.Replies.{reaction_to_reply}
 use Rattle.client_core.specs.Feeding.{takes_all, sends_of, fault_of}
-use Rattle.pir_world.specs.Runs.{Wire, ClientLink, AcceptedAsk, LogEntry, Called, Sent, Served, arrived, beyond, sent, serves, served_or, reports, reacts, reader_key}
+use Rattle.pir_world.specs.Runs.{Wire, ClientLink, AcceptedAsk, LogEntry, Called, Sent, Served, arrived, wire_after, sent, serves, served_or, reports, reacts, reader_key}
 use Rattle.pir_world.specs.Earlier.{IsSentLast, IsServedLast, is_ask, asks_of, hint_after, hint_named, IsAsked, HasEarlier, IsAskForChanges, IsAskForPart}
-use Rattle.pir_world.specs.Versions.{name_of, seed_of}
+use Rattle.pir_world.specs.Versions.{name_of_hint, seed_of}
 use Rattle.pir_world.specs.Invariants.{GoodHistory, IsReply, outstanding_frame, InFlight, IsDuringCall, LinkInvariant, IsFrom, LogInvariant, EachAfter}
 use Rattle.pir_world.proofs.Receipts.{reported_by}
 use Rattle.pir_world.proofs.Wires.{none_arrives, one_arrives}
@@ -224,7 +224,7 @@ module _ (x : Setting) (seeds : List (List ℕ)) (h : History) (k : ℕ) (l : Cl
 
   called_log : (w : ClientCall) (d : ClientState) (sends : Frame) → sends ≡ outstanding_frame d d.call
       → InFlight x h l.standing (seed_of seeds k) d d.call (l.up.frames ++ sends ∷ []) l.down.frames
-      → d.number ≡ asks_of k (log ++ entries_of w sends) → name_of d.hint ≡ hint_named k (log ++ entries_of w sends)
+      → d.number ≡ asks_of k (log ++ entries_of w sends) → name_of_hint d.hint ≡ hint_named k (log ++ entries_of w sends)
       → IsFrom x h (seed_of seeds k) k (scheme_held d.hint) d.call sends (log ++ Called k w None ∷ [])
       → LogInvariant x h (seed_of seeds k) k (link_with d sends) (log ++ entries_of w sends)
   called_log w d sends is flight number hint from = record {
@@ -266,7 +266,7 @@ module _ (x : Setting) (seeds : List (List ℕ)) (h : History) (k : ℕ) (l : Cl
       let es = entries_of (sync_call s) f in
       let b = base_is s l.client.hint since is in
       let named : hint_named k log ≡ Some (Simple, since) =
-      sym g.hint ∙ ap name_of b.held ∙ rw (b.simple, b.version) refl in
+      sym g.hint ∙ ap name_of_hint b.held ∙ rw (b.simple, b.version) refl in
       let wide : Bool = is_wide_client l.client in
       record {
         kept = called_log (sync_call s) d f (since_outstanding d since wide) (since_in_flight x h l.standing (seed_of seeds k) d since wide _ _ n.phase)
@@ -300,7 +300,7 @@ module _ (x : Setting) (seeds : List (List ℕ)) (h : History) (k : ℕ) (l : Cl
         before = log;
         log_is = refl;
         number_is = g.number;
-        hint_is = sym g.hint ∙ ap name_of n.call.hint_is ∙ named;
+        hint_is = sym g.hint ∙ ap name_of_hint n.call.hint_is ∙ named;
         records = w.0;
         version_is = w.1;
         query_is = ap (λ (ws : List ℕ). frame.Query (scheme_byte s) v ws) w.2;
@@ -372,10 +372,10 @@ module _ (x : Setting) (seeds : List (List ℕ)) (h : History) (k : ℕ) (l : Cl
   logged_served short most i =
       let few = (few_frames x h l.standing (seed_of seeds k) l.client l.client.call l.up.frames l.down.frames i.phase).0 in
       elim few [
-        | inl e ↦ let a = none_arrives l.up most e in served_none short (arrived l.up most) (beyond l.up most) a.0 (a.1 ∙ sym e)
+        | inl e ↦ let a = none_arrives l.up most e in served_none short (arrived l.up most) (wire_after l.up most) a.0 (a.1 ∙ sym e)
         | inr p ↦ elim (one_arrives l.up most p.0 p.1) [
-          | inl a ↦ served_none short (arrived l.up most) (beyond l.up most) a.0 (a.1 ∙ sym p.1)
-          | inr a ↦ served_one short p.0 (arrived l.up most) (beyond l.up most) a.0 i.unclosed p.1
+          | inl a ↦ served_none short (arrived l.up most) (wire_after l.up most) a.0 (a.1 ∙ sym p.1)
+          | inr a ↦ served_one short p.0 (arrived l.up most) (wire_after l.up most) a.0 i.unclosed p.1
               (up_alone x h l.standing (seed_of seeds k) l.client l.client.call l.up.frames l.down.frames p.0 p.1 i.phase) a.1
         ]
       ]
@@ -394,7 +394,7 @@ module _ (x : Setting) (seeds : List (List ℕ)) (h : History) (k : ℕ) (l : Cl
           number = same_number k m.client.number log es (ap (λ (y : ClientState). y.number) c ∙ t.number ∙ g.number)
               (subst (λ (z : List LogEntry). AllByRecursion (λ e. is_ask k e ≡ false) z) (sym is) (reacts_no_ask k (scheme_held l.client.hint) l.client.call r reaction));
           hint =
-              ap (λ (y : ClientState). name_of y.hint) c ∙ t.told
+              ap (λ (y : ClientState). name_of_hint y.hint) c ∙ t.told
               ∙ ap (λ (n : Option (Scheme × ℕ)). fold (hint_after k) n (reacts k (scheme_held l.client.hint) l.client.call r reaction)) g.hint
               ∙ ap (λ (z : List LogEntry). fold (hint_after k) (hint_named k log) z) (sym is)
               ∙ sym (hint_more k log es);
@@ -434,11 +434,11 @@ module _ (x : Setting) (seeds : List (List ℕ)) (h : History) (k : ℕ) (l : Cl
       let inv : ClientInv x h (seed_of seeds k) l.standing l.client =
       record { seed_is = i.seed_is; profile_is = i.profile_is; alive = i.alive; known = i.known; hint = i.hint; call = i.call } in
       elim few [
-        | inl e ↦ let a = none_arrives l.down most e in reported_none (arrived l.down most) (beyond l.down most) a.0 (a.1 ∙ sym e)
+        | inl e ↦ let a = none_arrives l.down most e in reported_none (arrived l.down most) (wire_after l.down most) a.0 (a.1 ∙ sym e)
         | inr p ↦ elim (one_arrives l.down most p.0 p.1) [
-          | inl a ↦ reported_none (arrived l.down most) (beyond l.down most) a.0 (a.1 ∙ sym p.1)
+          | inl a ↦ reported_none (arrived l.down most) (wire_after l.down most) a.0 (a.1 ∙ sym p.1)
           | inr a ↦
               let comes = down_alone x h l.standing (seed_of seeds k) l.client l.client.call l.up.frames l.down.frames p.0 p.1 i.phase in
-              reported_one p.0 (arrived l.down most) (beyond l.down most) a.0 a.1 comes.0 p.1 (taken law x seeds k h l.standing l.client good inv p.0 comes.1)
+              reported_one p.0 (arrived l.down most) (wire_after l.down most) a.0 a.1 comes.0 p.1 (taken law x seeds k h l.standing l.client good inv p.0 comes.1)
         ]
       ]

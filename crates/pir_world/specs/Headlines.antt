@@ -23,7 +23,7 @@ use Rattle.client_core.specs.Replies.{event_read}
 use Rattle.pir_world.specs.declared.steps.Step.{Step}
 use Rattle.pir_world.specs.declared.steps.Outcome.TheVariants.{Published, Reported, Failed}
 use Rattle.pir_world.specs.Runs.{State, ClientLink, AcceptedAsk, LogEntry, Served, Ended, Plain, RunsTo, opening, setting_in}
-use Rattle.pir_world.specs.Versions.{HasVersion, IsVersion, given_words, record_read, IsQuietOn, seed_of, HintIs, name_of}
+use Rattle.pir_world.specs.Versions.{HasVersion, IsVersion, given_words, record_read, IsQuietOn, seed_of, HintIs, name_of_hint}
 use Rattle.pir_world.specs.Earlier.{AllWithEarlier, HasEarlier, hint_named}
 
 -- An answered retrieval: there is the version that it names, with a record of its index; the answer
@@ -95,7 +95,7 @@ pub record Headline (x : Setting) (seeds : List (List ℕ)) (s : State) : Type 0
   pub entries : AllByRecursion (IsRight x seeds s.history) s.log
   pub earlier : AllWithEarlier (HasEarlier x seeds s.history) s.log
   pub hints : (k : ℕ) (l : ClientLink) → slice_get s.links k ≡ Some l → HintIs x s.history l.client.hint
-  pub named : (k : ℕ) (l : ClientLink) → slice_get s.links k ≡ Some l → name_of l.client.hint ≡ hint_named k s.log
+  pub named : (k : ℕ) (l : ClientLink) → slice_get s.links k ≡ Some l → name_of_hint l.client.hint ≡ hint_named k s.log
 
 -- a snapshot that a store accepts, with bytes for its records
 pub record IsOpening (h : Header) (records : List ℕ) : Type 0 where

@@ -1,10 +1,10 @@
 -- What a world keeps.
 use Rattle.pir_world.specs.declared.world.World.TheInside.{Inside}
 use Rattle.pir_world.specs.Runs.{State}
-use Rattle.pir_world.specs.Worlds.{Kept, IsRunOf}
+use Rattle.pir_world.specs.Worlds.{WorldSeen, IsRunOf}
 
 -- what callers see of it
-abbrev pub shown : {K : Type 0} → Inside K → Kept
+abbrev pub shown : {K : Type 0} → Inside K → WorldSeen
 shown w = record {
   header = w.header;
   records = w.records.items;

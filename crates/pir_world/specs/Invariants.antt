@@ -30,7 +30,7 @@ use Rattle.client_core.specs.Calls.{call_words}
 use Rattle.client_core.specs.Replies.{are_ascending}
 use Rattle.pir_world.specs.Runs.{State, ClientLink, LogEntry, reader_key}
 use Rattle.pir_world.specs.Earlier.{IsSentLast, IsServedLast, asks_of, hint_named, IsAsked, HasEarlier}
-use Rattle.pir_world.specs.Versions.{HasVersion, HintIs, given_words, name_of, seed_of}
+use Rattle.pir_world.specs.Versions.{HasVersion, HintIs, given_words, name_of_hint, seed_of}
 use Rattle.pir_world.specs.Headlines.{IsRight}
 
 -- records within the limits of a plan, each of its bytes
@@ -210,7 +210,7 @@ IsFrom x h seed k s _ f first = Unit {0}
 -- the reply
 pub record LogInvariant (x : Setting) (h : History) (seed : List ℕ) (k : ℕ) (l : ClientLink) (log : List LogEntry) : Type 0 where
   pub number : l.client.number ≡ asks_of k log
-  pub hint : name_of l.client.hint ≡ hint_named k log
+  pub hint : name_of_hint l.client.hint ≡ hint_named k log
   pub sent : (f : Frame) → l.up.frames ≡ f ∷ [] →
       (first : List LogEntry) × IsSentLast k f first log × IsFrom x h seed k (scheme_held l.client.hint) l.client.call f first
   pub served : (r : Frame) → l.down.frames ≡ r ∷ [] →

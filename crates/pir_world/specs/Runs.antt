@@ -53,26 +53,26 @@ abbrev pub sent : Wire → List Frame → Wire
 sent w fs = record { frames = w.frames ++ fs; got = w.got }
 
 -- the frames that are whole within the first n bytes
-abbrev pub whole : List Frame → ℕ → List Frame
-whole [] n = []
-whole (f ∷ fs) n = if nat_le (length (encoding f)) n then f ∷ whole fs (n - length (encoding f)) else []
+abbrev pub whole_frames : List Frame → ℕ → List Frame
+whole_frames [] n = []
+whole_frames (f ∷ fs) n = if nat_le (length (encoding f)) n then f ∷ whole_frames fs (n - length (encoding f)) else []
 
 -- what is still on its way after the first n bytes
-abbrev pub unread : List Frame → ℕ → Wire
-unread [] n = silent
-unread (f ∷ fs) n = if nat_le (length (encoding f)) n then unread fs (n - length (encoding f)) else record { frames = f ∷ fs; got = n }
+abbrev pub rest_after : List Frame → ℕ → Wire
+rest_after [] n = silent
+rest_after (f ∷ fs) n = if nat_le (length (encoding f)) n then rest_after fs (n - length (encoding f)) else record { frames = f ∷ fs; got = n }
 
 -- how far a delivery of at most some bytes comes
-abbrev pub reach : Wire → ℕ → ℕ
-reach w most = w.got + min most (length (flat_map encoding w.frames) - w.got)
+abbrev pub bytes_reached : Wire → ℕ → ℕ
+bytes_reached w most = w.got + min most (length (flat_map encoding w.frames) - w.got)
 
 -- the frames whose last byte a delivery hands over
 abbrev pub arrived : Wire → ℕ → List Frame
-arrived w most = whole w.frames (reach w most)
+arrived w most = whole_frames w.frames (bytes_reached w most)
 
 -- what a delivery leaves on its way
-abbrev pub beyond : Wire → ℕ → Wire
-beyond w most = unread w.frames (reach w most)
+abbrev pub wire_after : Wire → ℕ → Wire
+wire_after w most = rest_after w.frames (bytes_reached w most)
 
 -- ---- what is written down of a run
 
@@ -114,15 +114,15 @@ served_or true x h st f = if takes_memory x h st f then refusal_given refusal.Me
 
 -- what some frames lead to: the history and the standing after them, the replies, and what is
 -- written down
-pub record Turn : Type 0 where
+pub record FramesServed : Type 0 where
   pub history : History
   pub standing : Standing
   pub replies : List Frame
   pub log : List LogEntry
 
 -- a frame is served; once the session is closed, none is
-abbrev pub turn_more : Setting → Bool → ℕ → Turn → Frame → Turn
-turn_more x short k t f =
+abbrev pub with_frame_served : Setting → Bool → ℕ → FramesServed → Frame → FramesServed
+with_frame_served x short k t f =
     if is_closed t.standing then t
     else (
     let o = served_or short x t.history t.standing f in
@@ -130,13 +130,13 @@ turn_more x short k t f =
     record { history = o.history; standing = o.standing; replies = t.replies ++ option_to_list o.reply; log = log })
 
 -- frames one after another
-abbrev pub turns : Setting → Bool → ℕ → Turn → List Frame → Turn
-turns x short k t [] = t
-turns x short k t (f ∷ fs) = turns x short k (turn_more x short k t f) fs
+abbrev pub with_frames_served : Setting → Bool → ℕ → FramesServed → List Frame → FramesServed
+with_frames_served x short k t [] = t
+with_frames_served x short k t (f ∷ fs) = with_frames_served x short k (with_frame_served x short k t f) fs
 
 -- frames of client k, one after another, from a history and a standing on
-abbrev pub serves : Setting → Bool → ℕ → History → Standing → List Frame → Turn
-serves x short k h st fs = turns x short k (record { history = h; standing = st; replies = []; log = [] }) fs
+abbrev pub serves : Setting → Bool → ℕ → History → Standing → List Frame → FramesServed
+serves x short k h st fs = with_frames_served x short k (record { history = h; standing = st; replies = []; log = [] }) fs
 
 -- ---- links
 
@@ -213,7 +213,7 @@ abbrev pub served_at : Setting → Bool → State → ℕ → ℕ → Option Cli
 served_at x short s k most None = s
 served_at x short s k most (Some l) =
     let t = serves x short k s.history l.standing (arrived l.up most) in
-    with_link s t.history k (record l { standing = t.standing; up = beyond l.up most; down = sent l.down t.replies }) t.log
+    with_link s t.history k (record l { standing = t.standing; up = wire_after l.up most; down = sent l.down t.replies }) t.log
 
 -- a delivery to client k, which takes each frame at the delivery of its last byte; nothing if there
 -- is no such client
@@ -221,7 +221,7 @@ abbrev pub received_at : State → ℕ → ℕ → Option ClientLink → State
 received_at s k most None = s
 received_at s k most (Some l) =
     let t = receives k l.client (arrived l.down most) in
-    with_link s s.history k (record l { client = t.client; up = sent l.up t.sends; down = beyond l.down most }) t.log
+    with_link s s.history k (record l { client = t.client; up = sent l.up t.sends; down = wire_after l.down most }) t.log
 
 -- the key of a reader
 abbrev pub reader_key : List ℕ

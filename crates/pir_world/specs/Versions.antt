@@ -46,6 +46,6 @@ HintIs x h None = Unit {0}
 HintIs x h (Some hint) = (records : List (List ℕ)) × HasVersion h hint.version records × (hint.matrix ≡ hint_matrix hint.scheme x.plan records)
 
 -- the scheme and the version of a hint
-abbrev pub name_of : Option Hint → Option (Scheme × ℕ)
-name_of None = None
-name_of (Some hint) = Some (hint.scheme, hint.version)
+abbrev pub name_of_hint : Option Hint → Option (Scheme × ℕ)
+name_of_hint None = None
+name_of_hint (Some hint) = Some (hint.scheme, hint.version)

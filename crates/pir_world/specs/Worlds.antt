@@ -10,7 +10,7 @@ use Rattle.pir_world.specs.Sides.{Side, Implements}
 
 -- the snapshot and the seeds it was opened with, the server, the clients' ends, the steps made and
 -- the outcomes, in order, and whether memory was refused in a step
-pub record Kept : Type 0 where
+pub record WorldSeen : Type 0 where
   pub header : Header
   pub records : List ℕ
   pub seeds : List (List ℕ)
@@ -22,14 +22,14 @@ pub record Kept : Type 0 where
 
 -- a run of a world's steps from its opening leads to this state, whose outcomes the world has;
 -- until memory was refused in a step, its parts are the state's
-pub record IsRunOf (w : Kept) (s : State) : Type 0 where
+pub record IsRunOf (w : WorldSeen) (s : State) : Type 0 where
   pub opens : IsOpening w.header w.records
   pub run : RunsTo (setting_in w.header) (opening w.header w.records w.seeds) w.steps s
   pub outcomes_are : w.outcomes ≡ outcomes_of s.log
   pub parts : w.broken ≡ false → Implements (setting_in w.header) w.core w.ends w.outcomes s
 
 -- a world that has made no step
-pub record IsNew (w : Kept) (h : Header) (records : List ℕ) (seeds : List (List ℕ)) : Type 0 where
+pub record IsNew (w : WorldSeen) (h : Header) (records : List ℕ) (seeds : List (List ℕ)) : Type 0 where
   pub header : w.header ≡ h
   pub records_are : w.records ≡ records
   pub seeds_are : w.seeds ≡ seeds

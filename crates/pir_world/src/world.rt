@@ -43,10 +43,10 @@ pub struct World<K: Kernel> {
 }
 
 impl<K: Kernel> Model for World<K> {
-    ghost use Rattle.pir_world.specs.Worlds.{Kept};
+    ghost use Rattle.pir_world.specs.Worlds.{WorldSeen};
     ghost use Rattle.pir_world.specs.Inside.{IsKeptRun, shown};
 
-    ghost Value = { Kept };
+    ghost Value = { WorldSeen };
 
     ghost view = { shown };
 

@@ -7,7 +7,7 @@ use Rattle.snapshot_file.specs.declared.snapshot.Header.{Header}
 use Rattle.pir_world.specs.declared.steps.Step.{Step}
 use Rattle.pir_world.specs.declared.steps.Outcome.{Outcome}
 use Rattle.pir_world.specs.Runs.{State, StepsTo, setting_in, outcomes_of}
-use Rattle.pir_world.specs.Worlds.{Kept, IsRunOf}
+use Rattle.pir_world.specs.Worlds.{WorldSeen, IsRunOf}
 use Rattle.pir_world.specs.Headlines.{IsOpening}
 use Rattle.pir_world.specs.Sides.{has_client}
 use Rattle.world_script.specs.declared.line.Line.{Line}
@@ -25,31 +25,31 @@ is_true true h = refl
 is_true false h = absurd (h refl)
 
 -- the place after a step that was made
-pub after_step : Kept → State → ScriptPlace
+pub after_step : WorldSeen → State → ScriptPlace
 after_step w t = Running (record { header = w.header; clients = length w.ends; state = t })
 
 -- the place is that of the world as it is now
-pub after_step_is : (w v : Kept) (t : State) → v.header ≡ w.header → length v.ends ≡ length w.ends → after_step w t ≡ Running (running_world v t)
+pub after_step_is : (w v : WorldSeen) (t : State) → v.header ≡ w.header → length v.ends ≡ length w.ends → after_step w t ≡ Running (running_world v t)
 unfolding after_step
 after_step_is w v t e n =
     ap (λ (h : Header). Running (record { header = h; clients = length w.ends; state = t })) (sym e)
     ∙ ap (λ (k : ℕ). Running (record { header = v.header; clients = k; state = t })) (sym n)
 
 -- what a world has reported since an earlier state
-pub told_is : (w v : Kept) (s t : State) (before : List Outcome) → before ≡ w.outcomes → IsRunOf w s → IsRunOf v t →
+pub told_is : (w v : WorldSeen) (s t : State) (before : List Outcome) → before ≡ w.outcomes → IsRunOf w s → IsRunOf v t →
     drop (length before) v.outcomes ≡ added_outcomes s t
 told_is w v s t before e p q =
     ap (λ (x : List Outcome). drop (length x) v.outcomes) (e ∙ p.outcomes_are)
     ∙ ap (λ (x : List Outcome). drop (length (outcomes_of s.log)) x) q.outcomes_are
 
 -- the move of a step that was made
-pub made : (w : Kept) (s t : State) (step : Step) → has_client step (length w.ends) ≡ true → StepsTo (setting_in w.header) s step t →
+pub made : (w : WorldSeen) (s t : State) (step : Step) → has_client step (length w.ends) ≡ true → StepsTo (setting_in w.header) s step t →
     MakesStep (running_world w s) step (Goes (after_step w t) (map outcome_text (added_outcomes s t)))
 unfolding after_step
 made w s t step has steps = inl (has, (t, steps, refl))
 
 -- a step was made, and all that came of it was printed
-pub MovesTo-from_step : (w v : Kept) (s t : State) (step : Step) (n : ℕ) (before : List Outcome) (o new : Option (List ℕ)) →
+pub MovesTo-from_step : (w v : WorldSeen) (s t : State) (step : Step) (n : ℕ) (before : List Outcome) (o new : Option (List ℕ)) →
     v.header ≡ w.header → length v.ends ≡ length w.ends → v.broken ≡ false → before ≡ w.outcomes → IsRunOf w s → IsRunOf v t →
     has_client step (length w.ends) ≡ true → StepsTo (setting_in w.header) s step t →
     Appends o new (flat_map outcome_text (drop (length before) v.outcomes)) →
@@ -63,7 +63,7 @@ MovesTo-from_step w v s t step n before o new e ends alive b p q has steps said 
 )
 
 -- a step was made, and not all that came of it was printed
-pub StopsAt-from_step : (w v : Kept) (s t : State) (step : Step) (n : ℕ) (before : List Outcome) (o new : Option (List ℕ)) (e : Stop) →
+pub StopsAt-from_step : (w v : WorldSeen) (s t : State) (step : Step) (n : ℕ) (before : List Outcome) (o new : Option (List ℕ)) (e : Stop) →
     before ≡ w.outcomes → IsRunOf w s → IsRunOf v t →
     has_client step (length w.ends) ≡ true → StepsTo (setting_in w.header) s step t →
     SaysAll (drop (length before) v.outcomes) o (Err e) new → StopsAtMove (MakesStep (running_world w s) step) n o e new
@@ -72,22 +72,22 @@ StopsAt-from_step w v s t step n before o new e b p q has steps said =
     (subst (λ (x : List Outcome). SaysAll x o (Err e) new) (told_is w v s t before b p q) said)
 
 -- the move of a step of no client
-pub unmade : (w : Kept) (s : State) (step : Step) → has_client step (length w.ends) ≡ false →
+pub unmade : (w : WorldSeen) (s : State) (step : Step) → has_client step (length w.ends) ≡ false →
     MakesStep (running_world w s) step (Goes (Running (running_world w s)) (no_client_text (named_client step) ∷ []))
 unmade w s step has = inr (has, refl)
 
-pub MovesTo-from_none : (w v : Kept) (s : State) (step : Step) (n k : ℕ) (o new : Option (List ℕ)) → v ≡ w → w.broken ≡ false → IsRunOf w s →
+pub MovesTo-from_none : (w v : WorldSeen) (s : State) (step : Step) (n k : ℕ) (o new : Option (List ℕ)) → v ≡ w → w.broken ≡ false → IsRunOf w s →
     has_client step (length w.ends) ≡ false → k ≡ named_client step → Appends o new (no_client_text k) →
     MakesMove (MakesStep (running_world w s) step) n o (Ok (progress.Running v)) new
 MovesTo-from_none w v s step n k o new same alive run has named said = (
   Running (running_world w s),
   no_client_text (named_client step) ∷ [],
-  subst (λ (u : Kept). IsAt (progress.Running u) (Running (running_world w s))) (sym same) (s, run, alive, refl),
+  subst (λ (u : WorldSeen). IsAt (progress.Running u) (Running (running_world w s))) (sym same) (s, run, alive, refl),
   unmade w s step has,
   subst (Appends o new) (ap no_client_text named ∙ sym (joined_one (no_client_text (named_client step)))) said,
 )
 
-pub StopsAt-from_none : (w : Kept) (s : State) (step : Step) (n k : ℕ) (o new : Option (List ℕ)) (e : Stop) →
+pub StopsAt-from_none : (w : WorldSeen) (s : State) (step : Step) (n k : ℕ) (o new : Option (List ℕ)) (e : Stop) →
     has_client step (length w.ends) ≡ false → k ≡ named_client step → SaysText (no_client_text k) o (Err e) new →
     StopsAtMove (MakesStep (running_world w s) step) n o e new
 StopsAt-from_none w s step n k o new e has named said =
@@ -103,13 +103,13 @@ no_step c (line.Record x) h = refl
 no_step c (line.Client x) h = refl
 
 -- a world that was opened has its opening
-pub opening_of : (f : Filling) (w : Kept) → IsOpened f w → IsOpening (header_of_filling f) f.records
+pub opening_of : (f : Filling) (w : WorldSeen) → IsOpened f w → IsOpening (header_of_filling f) f.records
 opening_of f w h =
     subst (λ (x : List ℕ). IsOpening (header_of_filling f) x) h.records
     (subst (λ (x : Header). IsOpening x w.records) h.header h.run.opens)
 
 -- it is at its first place
-pub opened_is : (f : Filling) (w : Kept) → IsOpened f w → opened_world f ≡ running_world w (opened_world f).state
+pub opened_is : (f : Filling) (w : WorldSeen) → IsOpened f w → opened_world f ≡ running_world w (opened_world f).state
 opened_is f w h =
     let at : Header → ℕ → RunningWorld = λ x k. record { header = x; clients = k; state = (opened_world f).state } in
     ap (λ (x : Header). at x (length f.clients)) (sym h.header) ∙ ap (λ (k : ℕ). at w.header k) (sym h.clients)

@@ -6,7 +6,7 @@ use Rattle.pir_world.specs.declared.steps.Outcome.{Outcome}
 use Rattle.version_store.specs.declared.opening.OpenError.TheVariants as opening_error
 use Rattle.version_store.specs.Openings.{IsOpenFault}
 use Rattle.pir_world.specs.Runs.{State, opening}
-use Rattle.pir_world.specs.Worlds.{Kept, IsRunOf}
+use Rattle.pir_world.specs.Worlds.{WorldSeen, IsRunOf}
 use Rattle.world_script.specs.declared.progress.Progress.{Progress}
 use Rattle.world_script.specs.declared.progress.Progress.TheVariants as progress
 use Rattle.world_script.specs.declared.progress.WorldOpening.{WorldOpening}
@@ -22,7 +22,7 @@ abbrev pub filling_of : WorldOpening → Filling
 filling_of o = record { sizes = o.sizes; seed = o.seed; records = o.records.items; count = o.count; clients = o.clients.items }
 
 -- a world in a state
-abbrev pub running_world : Kept → State → RunningWorld
+abbrev pub running_world : WorldSeen → State → RunningWorld
 running_world w s = record { header = w.header; clients = length w.ends; state = s }
 
 -- progress is at a place: of a world, its steps lead to the state
@@ -80,7 +80,7 @@ SaysText text old (Err stop.Write) new = (k : ℕ) × (k < length text) × Appen
 SaysText text old (Err _) new = ⊥
 
 -- a world that has made no step
-pub record IsOpened (f : Filling) (w : Kept) : Type 0 where
+pub record IsOpened (f : Filling) (w : WorldSeen) : Type 0 where
   pub header : w.header ≡ header_of_filling f
   pub records : w.records ≡ f.records
   pub clients : length w.ends ≡ length f.clients
@@ -88,7 +88,7 @@ pub record IsOpened (f : Filling) (w : Kept) : Type 0 where
   pub run : IsRunOf w (opening (header_of_filling f) f.records f.clients)
 
 -- a world that is opened, or why it isn't
-abbrev pub OpensWorld : Filling → Result Kept Stop → Type 0
+abbrev pub OpensWorld : Filling → Result WorldSeen Stop → Type 0
 OpensWorld f (Ok w) = IsOpened f w
 OpensWorld f (Err (stop.World fault)) = (fault ≢ opening_error.Memory) × IsOpenFault (header_of_filling f) f.records fault
 OpensWorld f (Err stop.Memory) = Unit {0}
