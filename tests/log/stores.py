@@ -310,8 +310,9 @@ class Traced:
         self.more = {"more": more, "passed": (self.file.fileno(),)}
 
     def lines(self):
-        self.file.seek(0)
-        return self.file.read().decode().replace(f"{self.folder}/", "").splitlines()
+        # The process writes where the place that both share is: reading must not move it.
+        file = self.file.fileno()
+        return os.pread(file, os.fstat(file).st_size, 0).decode().replace(f"{self.folder}/", "").splitlines()
 
     def calls(self):
         """The calls on files."""
