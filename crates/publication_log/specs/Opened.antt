@@ -1,5 +1,5 @@
 -- What was opened of a log.
-use Rattle.std.specs.Prelude.{◌≡◌, ◌+◌, ℕ, List, length, slice_range, false}
+use Rattle.std.specs.Prelude.{◌≡◌, ℕ, List, slice_range, false}
 use Rattle.publication_log.specs.declared.header.LogHeader.{LogHeader}
 use Rattle.publication_log.specs.declared.opened.OpenedLog.{OpenedLog}
 use Rattle.publication_log.specs.declared.opened.ReadLog.{ReadLog}
@@ -8,7 +8,8 @@ use Rattle.publication_log.specs.declared.log.LogEnd.{LogEnd}
 use Rattle.publication_log.specs.declared.reading.Found.{Found}
 use Rattle.publication_log.specs.Publications.{Published}
 use Rattle.publication_log.specs.Entries.{chain_bytes}
-use Rattle.publication_log.specs.Logs.{first_link, bodies_of, end_link, AreNext}
+use Rattle.publication_log.specs.Laws.{IsEndOf}
+use Rattle.publication_log.specs.Logs.{first_link, bodies_of, AreNext}
 
 -- the entries of a log's bytes, by what was found of it
 abbrev pub entries_in : List ℕ → Found → List ℕ
@@ -28,9 +29,9 @@ pub record IsReadLog (h : LogHeader) (ps : List Published) (read : ReadLog) : Ty
   pub each : AreNext h.version ps
   pub entries : entries_of read ≡ chain_bytes (first_link h) (bodies_of ps)
 
--- a log that was read as these publications, after which the next one is appended
+-- a log that was read as these publications, after which the next one is appended, and at whose end
+-- a failed append is cut off
 pub record IsOpenedLog {F : Type 0} (h : LogHeader) (ps : List Published) (opened : OpenedLog F) : Type 0 where
   pub read : IsReadLog h ps opened.read
-  pub link : opened.log.link ≡ end_link h ps
-  pub version : opened.log.version ≡ h.version + length ps
+  pub ends : IsEndOf h ps opened.log.link opened.log.version opened.log.len
   pub untorn : opened.log.is_torn ≡ false

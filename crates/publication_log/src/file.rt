@@ -6,6 +6,7 @@ ghost use Rattle.publication_log.specs.Opened.{IsOpenedLog, IsReadLog};
 
 use crate::entries::frame_at;
 use crate::header::{LOG_MARK, LogHeader};
+use crate::laws::found_is_end;
 use crate::log::{AppendDisk, Log, LogDiskFailed};
 use crate::opened::{OpenedLog, ReadLog};
 use crate::reading::{BadLog, Found, LogReadFault, read_log};
@@ -103,6 +104,8 @@ pub fn open_log<R: FileSystem>(
         return Err(OpenFault::File);
     }
     sync_name(rt, name)?;
+    // Called for its law: what was found is the end of the log.
+    found_is_end();
     let Ok(log) = Log::recover(LogFile { file }, &found, bytes.len()) else {
         return Err(OpenFault::Cut);
     };

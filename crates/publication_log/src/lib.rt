@@ -14,7 +14,7 @@
 //! and [`Log::append`] appends it. [`relinked`] makes the log of a later snapshot of the last
 //! publications.
 //!
-//! Its tests are in tests/long/publication_log, in tests/log and in `tests_frame`.
+//! Its tests are in tests/long/publication_log, `tests_frame::publications` and tests/log.
 #![tactic(auto)]
 
 mod builder;
