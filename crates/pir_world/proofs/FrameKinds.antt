@@ -1,6 +1,6 @@
 -- Frames on their way have the kinds that the database's streams have.
 use Rattle.std.proofs.Common.{◌≡◌, ℕ, Bool, true, false, List, [], ◌∷◌, Option, Some, None, refl, sym, ap, ◌∙◌, inl, inr}
-use Rattle.std.specs.Prelude.{◌==◌, ◌&&◌, ◌||◌, if◌then◌else◌, is_some, option_to_list}
+use Rattle.std.specs.Prelude.{◌==◌, ◌&&◌, ◌||◌, if◌then◌else◌, is_some, option_to_list, fold}
 use Rattle.std.specs.List.{AllByRecursion}
 use Rattle.std.proofs.lemmas.Bool.{cases_Bool, eqb-true, or_cases}
 use Rattle.digit_pack.specs.Layout.{is_wide}
@@ -23,7 +23,7 @@ use Rattle.client_core.specs.States.{is_wide_client, delta_base}
 use Rattle.client_core.specs.Calls.{ClientCall, Hello, Sync, Ask, Edit, Append, Publish, call_frame, frame_since, sync_frame}
 use Rattle.client_core.specs.Replies.{reaction_to_reply}
 use Rattle.client_core.specs.Feeding.{Course, runs, course_more, takes_all, start, sends_of}
-use Rattle.pir_world.specs.Runs.{ClientLink, FramesServed, served_or, with_frame_served, with_frames_served, arrived}
+use Rattle.pir_world.specs.Runs.{ClientLink, FramesServed, served_or, with_frame_served, arrived}
 use Rattle.pir_world.proofs.Links.{turn_of}
 
 -- a frame of a kind that a stream has
@@ -115,7 +115,7 @@ served_known true x h st f = elim (cases_Bool (takes_memory x h st f)) [
 ]
 
 turns_known : (x : Setting) (short : Bool) (k : ℕ) (t : FramesServed) (fs : List Frame) → AllByRecursion (Known (is_wide_setting x)) t.replies →
-    AllByRecursion (Known (is_wide_setting x)) (with_frames_served x short k t fs).replies
+    AllByRecursion (Known (is_wide_setting x)) (fold (with_frame_served x short k) t fs).replies
 turns_known x short k t [] known = known
 turns_known x short k t (f ∷ fs) known = turns_known x short k (with_frame_served x short k t f) fs (elim (cases_Bool (is_closed t.standing)) [
   | inl shut ↦ rw shut known

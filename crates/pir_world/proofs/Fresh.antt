@@ -187,7 +187,7 @@ module _ (x : Setting) (seeds : List (List ℕ)) (s : State) (inv : WorldInvaria
 
 run_served : RetrievalGivesTheRecord → (x : Setting) (seeds : List (List ℕ)) (s : State) (steps : List Step) (t : State) → RunsTo x s steps t → WorldInvariant x seeds s →
     EachAfter IsServedFresh [] s.log → EachAfter IsServedFresh [] t.log
-run_served law x seeds s [] t e inv so_far = rw e so_far
+run_served law x seeds s [] t e inv so_far = rw (← e) so_far
 run_served law x seeds s (step ∷ steps) t r inv so_far =
     run_served law x seeds r.0 steps t r.2 (step_inv law x seeds s step r.0 r.1 inv) (step_served x seeds s inv so_far step r.0 r.1)
 

@@ -156,12 +156,12 @@ step_inv law x seeds s step t (f, inr e) inv = rw e (after_inv x seeds s inv law
 
 pub run_inv : RetrievalGivesTheRecord → (x : Setting) (seeds : List (List ℕ)) (s : State) (steps : List Step) (t : State) → RunsTo x s steps t → WorldInvariant x seeds s →
     WorldInvariant x seeds t
-run_inv law x seeds s [] t e inv = rw e inv
+run_inv law x seeds s [] t e inv = rw (← e) inv
 run_inv law x seeds s (step ∷ steps) t r inv = run_inv law x seeds r.0 steps t r.2 (step_inv law x seeds s step r.0 r.1 inv)
 
 pub run_more : (x : Setting) (s : State) (steps : List Step) (t : State) (step : Step) (u : State) → RunsTo x s steps t → StepsTo x t step u →
     RunsTo x s (steps ++ step ∷ []) u
-run_more x s [] t step u e one = (u, subst (λ (a : State). StepsTo x a step u) e one, refl)
+run_more x s [] t step u e one = (u, subst (λ (a : State). StepsTo x a step u) (sym e) one, refl)
 run_more x s (y ∷ ys) t step u e one = (e.0, e.1, run_more x e.0 ys t step u e.2 one)
 
 pub stepped : (x : Setting) (short : Bool) (s : State) (step : Step) → HasBytes step → StepsTo x s step (state_after x short s step)

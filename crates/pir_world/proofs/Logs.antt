@@ -23,7 +23,7 @@ use Rattle.client_core.specs.Calls.{Ask as ask_call}
 use Rattle.client_core.specs.Replies.{reaction_to_reply}
 use Rattle.client_core.specs.Feeding.{fault_of}
 use Rattle.pir_world.specs.declared.steps.Outcome.TheVariants.{Reported}
-use Rattle.pir_world.specs.Runs.{ClientLink, FramesServed, AcceptedAsk, LogEntry, Called, Sent, Served, Ended, Plain, with_frames_served, with_frame_served, reports, reacts}
+use Rattle.pir_world.specs.Runs.{ClientLink, FramesServed, AcceptedAsk, LogEntry, Called, Sent, Served, Ended, Plain, with_frame_served, reports, reacts}
 use Rattle.pir_world.specs.Earlier.{AllWithEarlier, IsAside, IsSentLast, IsServedLast, is_ask, asks_of, hint_after, hint_named, IsAsked, HasEarlier}
 use Rattle.pir_world.specs.Versions.{name_of_hint, seed_of}
 use Rattle.pir_world.specs.Invariants.{IsFrom, LogInvariant, EachAfter}
@@ -161,7 +161,7 @@ module _ (j k : ℕ) (ne : k ≢ j) where
       (cond_both (is_some (fault_of t.reaction)) [] (reported_by k t.state fs) (λ es. AllByRecursion (IsAside j) es) (λ e. tt) (λ e. reported_aside t.state fs))
 
   pub served_asides : (x : Setting) (short : Bool) (t : FramesServed) (fs : List Frame) → AllByRecursion (IsAside j) t.log
-      → AllByRecursion (IsAside j) (with_frames_served x short k t fs).log
+      → AllByRecursion (IsAside j) (fold (with_frame_served x short k) t fs).log
   served_asides x short t [] p = p
   served_asides x short t (f ∷ fs) p =
       served_asides x short (with_frame_served x short k t f) fs

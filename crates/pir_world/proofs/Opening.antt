@@ -1,21 +1,22 @@
 -- A world as it begins, and so every run.
-use Rattle.std.proofs.Common.{◌≡◌, ◌==◌, Bool, true, false, cond, ℕ, zero, suc, ◌-◌, ◌<◌, List, [], ◌∷◌, length, map, Option, Some, refl, sym, ap, subst, ◌∙◌, arith}
+use Rattle.std.proofs.Common.{◌≡◌, ◌==◌, Bool, true, false, cond, ℕ, zero, suc, ◌-◌, ◌<◌, ◌^◌, All, List, [], ◌∷◌, length, map, Option, Some, refl, sym, ap, subst, ◌∙◌, arith}
 use Rattle.std.specs.Prelude.{slice_get, ◌||◌, ◌&&◌}
-use Rattle.std.proofs.lemmas.Bool.{and_from, le-leb, eq-eqb}
+use Rattle.std.proofs.lemmas.Bool.{and_from, and_parts, le-leb, leb-true, eq-eqb, eqb-true}
 use Rattle.std.proofs.lemmas.List.{length-map}
 use Rattle.matrix_u32.proofs.Products.{length-list_of}
 use Rattle.digit_pack.specs.Layout.{records_in, is_wide}
-use Rattle.digit_pack.proofs.Layouts.{layout_accepted}
+use Rattle.digit_pack.proofs.Layouts.{layout_accepted, layout_means}
 use Rattle.pir_schemes.specs.Plans.{content, records_held, client_profile}
 use Rattle.pir_schemes.specs.Laws.{RetrievalGivesTheRecord}
 use Rattle.frame_codec.specs.declared.frame.Frame.{Frame}
 use Rattle.snapshot_file.specs.declared.snapshot.Header.{Header}
 use Rattle.snapshot_file.specs.Snapshots.{shape_of}
 use Rattle.version_store.specs.Histories.{current_version}
-use Rattle.pir_world.specs.Runs.{ClientLink, opening, setting_in, fresh_link}
+use Rattle.pir_world.specs.declared.steps.Step.{Step}
+use Rattle.pir_world.specs.Runs.{State, ClientLink, opening, setting_in, fresh_link}
 use Rattle.pir_world.specs.Versions.{seed_of}
 use Rattle.pir_world.specs.Earlier.{HasEarlier}
-use Rattle.pir_world.specs.Headlines.{IsOpening, is_sound, EveryRunIsRight}
+use Rattle.pir_world.specs.Headlines.{IsOpening, is_sound, IsRunFrom, EveryRunIsRight}
 use Rattle.pir_world.specs.Invariants.{AreRecordsOf, LinkInvariant, LogInvariant, WorldInvariant}
 use Rattle.version_store.specs.Histories.{StoreState, StandsFor, opened}
 use Rattle.version_store.specs.Openings.{held_of, plan_held}
@@ -59,6 +60,29 @@ opening_accepted h bytes o =
     and_from _ _ s.sizes.form (and_from _ _ (layout_accepted (shape_of h) s.sizes.layout)
     (and_from _ _ (and_from _ _ (le-leb _ _ s.sizes.low) (le-leb _ _ s.sizes.high))
     (and_from _ _ (le-leb _ _ s.version) (and_from _ _ (eq-eqb _ _ s.len) s.slots))))
+
+-- a snapshot that passes each of its checks is one that a store accepts
+pub accepted_opens : (h : Header) (bytes : List ℕ) → is_sound h bytes ≡ true → All (λ b. b < 2 ^ 8) bytes → IsOpening h bytes
+accepted_opens h bytes e all =
+    let form = and_parts _ _ e in
+    let layout = and_parts _ _ form.1 in
+    let dimension = and_parts _ _ layout.1 in
+    let bounds = and_parts _ _ dimension.0 in
+    let version = and_parts _ _ dimension.1 in
+    let rest = and_parts _ _ version.1 in
+    record {
+      sound = record {
+        sizes = record { form = form.0; layout = layout_means (shape_of h) layout.0; low = leb-true _ _ bounds.0; high = leb-true _ _ bounds.1 };
+        version = leb-true _ _ version.0;
+        len = eqb-true _ _ rest.0;
+        slots = rest.1;
+      };
+      bytes = all;
+    }
+
+-- the opening of a run
+pub run_opens : (h : Header) (bytes : List ℕ) (seeds : List (List ℕ)) (steps : List Step) (s : State) → IsRunFrom h bytes seeds steps s → IsOpening h bytes
+run_opens h bytes seeds steps s r = accepted_opens h bytes r.accepted r.bytes
 
 -- the profile asked for is one that the server accepts
 asked_accepted : (wide one plain : Bool) → cond wide ((client_profile wide == 130) || ((client_profile wide == 129) && plain))
@@ -130,8 +154,7 @@ pub opening_run : (h : Header) (bytes : List ℕ) (seeds : List (List ℕ)) (w :
     w.steps ≡ [] → Implements (setting_in h) w.core w.ends w.outcomes (opening h bytes seeds)
     → IsRunOf w (opening h bytes seeds)
 opening_run h bytes seeds w o a b d e parts = record {
-  opens = rw (a, b) o;
-  run = rw (a, b, d, e) refl;
+  run = rw (a, b, d, e) (record { accepted = opening_accepted h bytes o; bytes = o.bytes; run = refl });
   outcomes_are = parts.outcomes_are;
   parts = λ alive. rw a parts;
 }

@@ -1,6 +1,6 @@
 -- From one client's end to all.
 use Rattle.std.proofs.Common.{◌≡◌, ◌≢◌, ℕ, ◌⊎◌, Bool, true, false, cond, List, [], ◌∷◌, ◌++◌, map, Option, Some, None, Ok, refl, sym, ap, subst, ◌∙◌, inl, inr}
-use Rattle.std.specs.Prelude.{slice_get, slice_set, is_some}
+use Rattle.std.specs.Prelude.{slice_get, slice_set, is_some, fold}
 use Rattle.std.specs.List.{AllByRecursion, flat_map}
 use Rattle.std.proofs.lemmas.List.{append-nil}
 use Rattle.std.proofs.lemmas.List.Concat.{flat_map-append}
@@ -27,7 +27,7 @@ use Rattle.client_core.specs.Feeding.{takes_all, events_of, fault_of}
 use Rattle.frame_codec.specs.Frames.{IsFrame, encoding}
 use Rattle.pir_world.specs.declared.steps.Outcome.{Outcome}
 use Rattle.pir_world.specs.declared.steps.Outcome.TheVariants.{Reported, CallRefused}
-use Rattle.pir_world.specs.Runs.{State, ClientLink, FramesServed, with_frames_served, with_frame_served, sent, with_history, LogEntry, Called, Sent, Plain, arrived, reacts, reports, outcomes_of, outcome_of, called_at, served_at}
+use Rattle.pir_world.specs.Runs.{State, ClientLink, FramesServed, with_frame_served, sent, with_history, LogEntry, Called, Sent, Plain, arrived, reacts, reports, outcomes_of, outcome_of, called_at, served_at}
 use Rattle.pir_schemes.specs.Laws.{RetrievalGivesTheRecord}
 use Rattle.pir_world.specs.Versions.{seed_of}
 use Rattle.pir_world.specs.Invariants.{WorldInvariant, LinkInvariant}
@@ -112,7 +112,7 @@ outcomes_more : (log es : List LogEntry) (os more : List Outcome) → os ≡ out
 outcomes_more log es os more a b = rw (a, ← b) (sym (flat_map-append outcome_of log es))
 
 -- what the server does tells no outcome
-serves_silent : (x : Setting) (short : Bool) (k : ℕ) (t : FramesServed) (fs : List Frame) → outcomes_of t.log ≡ [] → outcomes_of (with_frames_served x short k t fs).log ≡ []
+serves_silent : (x : Setting) (short : Bool) (k : ℕ) (t : FramesServed) (fs : List Frame) → outcomes_of t.log ≡ [] → outcomes_of (fold (with_frame_served x short k) t fs).log ≡ []
 serves_silent x short k t [] e = e
 serves_silent x short k t (f ∷ fs) e = serves_silent x short k (with_frame_served x short k t f) fs (one (is_closed t.standing) refl)
   where

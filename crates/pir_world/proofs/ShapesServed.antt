@@ -1,6 +1,6 @@
 -- What the server makes of frames that differ in the words of queries alone.
 use Rattle.std.proofs.Common.{◌≡◌, ℕ, List, [], ◌∷◌, ◌++◌, Bool, true, false, Option, Some, None, refl, sym, ap, subst, ◌∙◌, inl, inr}
-use Rattle.std.specs.Prelude.{option_to_list}
+use Rattle.std.specs.Prelude.{option_to_list, fold}
 use Rattle.std.specs.List.{flat_map, AllByRecursion}
 use Rattle.std.proofs.lemmas.Bool.{cases_Bool}
 use Rattle.std.proofs.lemmas.List.Concat.{flat_map-append}
@@ -11,7 +11,7 @@ use Rattle.server_core.specs.declared.standing.Standing.{Standing}
 use Rattle.server_core.specs.Serving.{Setting, AfterFrame, after_frame, takes_memory, is_closed}
 use Rattle.server_core.specs.Laws.{AreAlikeReplies}
 use Rattle.server_core.proofs.Alike.{replies_hold_no_index}
-use Rattle.pir_world.specs.Runs.{FramesServed, LogEntry, Served, served_or, with_frame_served, with_frames_served}
+use Rattle.pir_world.specs.Runs.{FramesServed, LogEntry, Served, served_or, with_frame_served}
 use Rattle.pir_world.specs.Shapes.{sights, HaveEqualSights, HadMemory}
 use Rattle.pir_world.proofs.ShapesFrames.{IsFrameLike, same_frame, same_shape, AreFramesLike, like_append}
 
@@ -115,7 +115,7 @@ module _ (x : Setting) (k : ℕ) where
       subst (λ (h : History). P h u.standing) (sym a.history) (subst (λ (st : Standing). P t.history st) (sym a.standing)
       (turn_like_at t.history t.standing t.replies u.replies t.log u.log f g a.replies a.log e))
 
-  pub turns_like : (t u : FramesServed) (fs gs : List Frame) → IsTurnLike t u → AreFramesLike fs gs → IsTurnLike (with_frames_served x false k t fs) (with_frames_served x false k u gs)
+  pub turns_like : (t u : FramesServed) (fs gs : List Frame) → IsTurnLike t u → AreFramesLike fs gs → IsTurnLike (fold (with_frame_served x false k) t fs) (fold (with_frame_served x false k) u gs)
   turns_like t u [] [] a e = a
   turns_like t u (f ∷ fs) (g ∷ gs) a e = turns_like (with_frame_served x false k t f) (with_frame_served x false k u g) fs gs (turn_like t u f g a e.0) e.1
   turns_like t u [] (g ∷ gs) a e = absurd e
@@ -129,7 +129,7 @@ module _ (x : Setting) (k : ℕ) where
     | inr c ↦ let b = rw c at a in all_first P t.log _ b
   ]
 
-  turns_kept : (P : LogEntry → Type 0) (short : Bool) (t : FramesServed) (fs : List Frame) → AllByRecursion P (with_frames_served x short k t fs).log → AllByRecursion P t.log
+  turns_kept : (P : LogEntry → Type 0) (short : Bool) (t : FramesServed) (fs : List Frame) → AllByRecursion P (fold (with_frame_served x short k) t fs).log → AllByRecursion P t.log
   turns_kept P short t [] a = a
   turns_kept P short t (f ∷ fs) a = more_kept P short t f (turns_kept P short (with_frame_served x short k t f) fs a)
 
@@ -155,8 +155,8 @@ module _ (x : Setting) (k : ℕ) where
         rw c (ap turned e)
   ]
 
-  pub turns_same : (t : FramesServed) (fs : List Frame) → AllByRecursion HadMemory (with_frames_served x true k t fs).log → with_frames_served x true k t fs ≡ with_frames_served x false k t fs
+  pub turns_same : (t : FramesServed) (fs : List Frame) → AllByRecursion HadMemory (fold (with_frame_served x true k) t fs).log → fold (with_frame_served x true k) t fs ≡ fold (with_frame_served x false k) t fs
   turns_same t [] a = refl
   turns_same t (f ∷ fs) a =
       turns_same (with_frame_served x true k t f) fs a
-      ∙ ap (λ (u : FramesServed). with_frames_served x false k u fs) (more_same t f (turns_kept HadMemory true (with_frame_served x true k t f) fs a))
+      ∙ ap (λ (u : FramesServed). fold (with_frame_served x false k) u fs) (more_same t f (turns_kept HadMemory true (with_frame_served x true k t f) fs a))

@@ -1,7 +1,7 @@
 -- Steps that differ in the indices of asks alone keep states alike, and so do runs of them.
 use Rattle.std.proofs.Common.{◌≡◌, ℕ, ◌+◌, ◌^◌, List, [], ◌∷◌, length, Bool, true, false, cond, Option, Some, None, refl, sym, ap, subst, ◌∙◌, inl, inr}
 use Rattle.std.specs.Prelude.{nat_lt, ◌==◌, slice_get}
-use Rattle.std.specs.List.{AllByRecursion}
+use Rattle.std.specs.List.{AllByRecursion, AllZip}
 use Rattle.std.proofs.lemmas.Bool.{cond_both}
 use Rattle.pir_schemes.specs.Plans.{fits, shape_at}
 use Rattle.pir_schemes.specs.Laws.{RetrievalGivesTheRecord}
@@ -38,7 +38,7 @@ use Rattle.pir_world.specs.Runs.{
   setting_in,
 }
 use Rattle.pir_world.specs.Versions.{seed_of}
-use Rattle.pir_world.specs.Shapes.{IsStepLike, AreStepsLike, HadMemory, AskIsWithin, AsksAreWithin, IsPlainRun, IndicesChangeNoShape}
+use Rattle.pir_world.specs.Shapes.{IsStepLike, HadMemory, AskIsWithin, AsksAreWithin, IsPlainRun, IndicesChangeNoShape}
 use Rattle.pir_world.specs.Invariants.{WorldInvariant}
 use Rattle.pir_world.proofs.Receipts.{reported_by_course, receipt_at}
 use Rattle.pir_world.proofs.Calls.{few_frames}
@@ -189,15 +189,15 @@ module _ (x : Setting) (s : State) where
   step_is step t (fits, inr e) all = e ∙ short_same step (subst (λ (u : State). AllByRecursion HadMemory u.log) e all)
 
 run_kept : (P : LogEntry → Type 0) (x : Setting) (s : State) (steps : List Step) (t : State) → RunsTo x s steps t → AllByRecursion P t.log → AllByRecursion P s.log
-run_kept P x s [] t e all = subst (λ (u : State). AllByRecursion P u.log) e all
+run_kept P x s [] t e all = subst (λ (u : State). AllByRecursion P u.log) (sym e) all
 run_kept P x s (step ∷ steps) t r all = steps_kept x s P step r.0 r.1 (run_kept P x r.0 steps t r.2 all)
 
 -- ---- runs
 
 module _ (law : RetrievalGivesTheRecord) (x : Setting) (seeds : List (List ℕ)) where
   runs_like : (s t : State) (steps others : List Step) (s2 t2 : State) → IsStateLike s t → WorldInvariant x seeds s → WorldInvariant x seeds t
-      → AreStepsLike steps others → IsPlainRun x s steps others s2 → IsPlainRun x t others steps t2 → IsStateLike s2 t2
-  runs_like s t [] [] s2 t2 a i j e r q = rw (r.run, q.run) a
+      → AllZip IsStepLike steps others → IsPlainRun x s steps others s2 → IsPlainRun x t others steps t2 → IsStateLike s2 t2
+  runs_like s t [] [] s2 t2 a i j e r q = rw (← r.run, ← q.run) a
   runs_like s t (step ∷ steps) (other ∷ others) s2 t2 a i j e r q =
       let here = r.run in
       let there = q.run in

@@ -97,8 +97,8 @@ IsAskForPart k scheme version part log =
     ⊎ ((first : List LogEntry) × (since : ℕ) × (count : ℕ) × (ask : Frame) × (scheme ≡ scheme_byte Simple) × (part ≡ 0) × ((ask ≡ frame.DeltaAsk since) ⊎ (ask ≡ frame.ChangesAsk since)) ×
     IsServedLast k ask (frame.NoDelta version count) first log)
 
--- What changed since a version was asked for: after an accepted sync of SimplePIR, while that
--- version's hint was held.
+-- An ask for what changed since a version came right after an accepted sync of SimplePIR, while a
+-- SimplePIR hint of that version was held.
 abbrev pub IsAskForChanges : ℕ → ℕ → List LogEntry → Type 0
 IsAskForChanges k since log =
     (first : List LogEntry) × (log ≡ first ++ Called k (Sync Simple) None ∷ []) × (hint_named k first ≡ Some (Simple, since))

@@ -7,7 +7,7 @@ use Rattle.pir_schemes.specs.declared.scheme.Scheme.{Scheme}
 use Rattle.pir_schemes.specs.Schemes.{scheme_byte}
 use Rattle.pir_schemes.specs.Plans.{shape_at}
 use Rattle.pir_schemes.specs.Laws.{IsCertainOf}
-use Rattle.pir_schemes.specs.Retrievals.{answer_words}
+use Rattle.pir_schemes.specs.Retrievals.{answer_words, IsQuietOf}
 use Rattle.frame_codec.specs.declared.frame.Frame.{Frame}
 use Rattle.frame_codec.specs.declared.frame.Frame.TheVariants as frame
 use Rattle.frame_codec.specs.declared.refusal.Refusal.TheVariants as refusal
@@ -23,7 +23,7 @@ use Rattle.client_core.specs.Replies.{event_read}
 use Rattle.pir_world.specs.declared.steps.Step.{Step}
 use Rattle.pir_world.specs.declared.steps.Outcome.TheVariants.{Published, Reported, Failed}
 use Rattle.pir_world.specs.Runs.{State, ClientLink, AcceptedAsk, LogEntry, Served, Ended, Plain, RunsTo, opening, setting_in}
-use Rattle.pir_world.specs.Versions.{HasVersion, IsVersion, given_words, record_read, IsQuietOn, seed_of, HintIs, name_of_hint}
+use Rattle.pir_world.specs.Versions.{HasVersion, IsVersion, given_words, record_read, seed_of, HintIs, name_of_hint}
 use Rattle.pir_world.specs.Earlier.{AllWithEarlier, HasEarlier, hint_named}
 
 -- An answered retrieval: there is the version that it names, with a record of its index; the answer
@@ -36,7 +36,7 @@ pub record IsAnswered (x : Setting) (h : History) (seed : List ℕ) (r : Accepte
   pub inside : r.index < length records
   pub answer_is : reply ≡ frame.Answer (scheme_byte r.scheme) r.version (given_words x.plan records seed r)
   pub event_is : event ≡ event_read r.index r.version (record_read x.plan records seed r)
-  pub quiet : IsQuietOn x.plan records seed r → event ≡ Retrieved r.index r.version (record_at records r.index)
+  pub quiet : IsQuietOf r.scheme x.plan records seed r.number r.index → event ≡ Retrieved r.index r.version (record_at records r.index)
   pub certain : IsCertainOf r.scheme (shape_at x.plan (length records)) → event ≡ Retrieved r.index r.version (record_at records r.index)
 
 -- A stale retrieval: the reply names a version that there is, later than the one that the retrieval
@@ -50,7 +50,8 @@ pub record IsStale (h : History) (r : AcceptedAsk) (reply : Frame) (event : Even
   pub reply_is : reply ≡ frame.Stale now (length records)
   pub event_is : event ≡ Stale now
 
--- how a retrieval ends: with its answer, as stale, or refused because the server was out of memory
+-- how a retrieval ends: with its answer, as stale, or refused with code 12, out of memory (that
+-- memory was lacking is not said)
 abbrev pub IsRightEnd : Setting → History → List ℕ → AcceptedAsk → Frame → Event → Type 0
 IsRightEnd x h seed r reply event =
     IsAnswered x h seed r reply event ⊎ IsStale h r reply event
@@ -58,7 +59,7 @@ IsRightEnd x h seed r reply event =
 
 -- A query of a scheme was served while `now` was current: it is refused as stale, with the current
 -- version, exactly when it names another. Else it is answered on that version's records, or refused
--- because the server was out of memory.
+-- with code 12, out of memory (that memory was lacking is not said).
 pub record IsRightReply (x : Setting) (h : History) (scheme : Scheme) (version now : ℕ) (words : List ℕ) (reply : Option Frame) : Type 0 where
   pub records : List (List ℕ)
   pub version_is : HasVersion h now records

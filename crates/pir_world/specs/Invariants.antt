@@ -98,8 +98,8 @@ CallIs x h c Edit = ⊥
 CallIs x h c Append = ⊥
 CallIs x h c Publish = ⊥
 
--- refused because the server was out of memory, stale with a later version that there is, or the
--- reply itself
+-- refused with code 12, out of memory; stale with a later version that there is; or the reply
+-- itself
 abbrev pub IsReplyOf : Setting → History → ℕ → Frame → (List (List ℕ) → Frame) → Type 0
 IsReplyOf x h v r answer =
     (r ≡ refused refusal.Memory)

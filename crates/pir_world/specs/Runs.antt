@@ -1,6 +1,6 @@
 -- Runs of a publisher, a server and clients over links that carry frames byte by byte.
-use Rattle.std.specs.Prelude.{◌≡◌, ◌<◌, ◌+◌, ◌-◌, ◌^◌, ◌⊎◌, ℕ, List, [], ◌∷◌, ◌++◌, length, min, map, replicate, All, Bool, true, false, Option, Some, None, slice_set, slice_get, nat_lt, nat_le, ◌==◌, cond, is_some, if◌then◌else◌, option_to_list}
-use Rattle.std.specs.List.{flat_map}
+use Rattle.std.specs.Prelude.{◌≡◌, ◌<◌, ◌+◌, ◌-◌, ◌^◌, ◌⊎◌, ℕ, List, [], ◌∷◌, ◌++◌, length, min, map, replicate, All, Bool, true, false, Option, Some, None, slice_set, slice_get, nat_lt, nat_le, ◌==◌, cond, is_some, if◌then◌else◌, option_to_list, fold}
+use Rattle.std.specs.List.{flat_map, FoldsTo}
 use Rattle.pir_schemes.specs.declared.scheme.Scheme.{Scheme}
 use Rattle.pir_schemes.specs.Schemes.{scheme_byte}
 use Rattle.digit_pack.specs.Layout.{is_layout, is_wide}
@@ -84,8 +84,9 @@ pub record AcceptedAsk : Type 0 where
   pub version : ℕ
   pub number : ℕ
 
--- A client was called, and why the call was refused, if it was; it sent a frame; a frame was served
--- while `now` was the current version; a reply ended a retrieval with an event; any other outcome.
+-- A client was called, and why the call was refused, if it was; a client sent a frame; a client's
+-- frame was served while version `now` was current, with this reply, if there was one; a reply
+-- ended a client's retrieval with an event; any other outcome.
 pub data LogEntry : Type 0 where
   Called : (client : ℕ) (want : ClientCall) (refusal : Option CallFault) → LogEntry
   Sent : (client : ℕ) (frame : Frame) → LogEntry
@@ -129,14 +130,9 @@ with_frame_served x short k t f =
     let log = t.log ++ Served k f (current_version t.history) o.reply ∷ [] in
     record { history = o.history; standing = o.standing; replies = t.replies ++ option_to_list o.reply; log = log })
 
--- frames one after another
-abbrev pub with_frames_served : Setting → Bool → ℕ → FramesServed → List Frame → FramesServed
-with_frames_served x short k t [] = t
-with_frames_served x short k t (f ∷ fs) = with_frames_served x short k (with_frame_served x short k t f) fs
-
 -- frames of client k, one after another, from a history and a standing on
 abbrev pub serves : Setting → Bool → ℕ → History → Standing → List Frame → FramesServed
-serves x short k h st fs = with_frames_served x short k (record { history = h; standing = st; replies = []; log = [] }) fs
+serves x short k h st fs = fold (with_frame_served x short k) (record { history = h; standing = st; replies = []; log = [] }) fs
 
 -- ---- links
 
@@ -180,7 +176,8 @@ receives k c (f ∷ fs) =
 
 -- ---- runs
 
--- all versions, the links of the clients in their order, and what was written down
+-- the history of the store (its versions, and the draft), the links of the clients in their order,
+-- and what was written down
 pub record State : Type 0 where
   pub history : History
   pub links : List ClientLink
@@ -262,7 +259,7 @@ state_after x short s (Ask k i) = called_at s (ask_call i) k (slice_get s.links 
 state_after x short s (ToServer k most) = served_at x short s k most (slice_get s.links k)
 state_after x short s (ToClient k most) = received_at s k most (slice_get s.links k)
 
--- the bytes of an edit or an append are bytes
+-- each byte of an edit or an append is below 2 ^ 8
 abbrev pub HasBytes : Step → Type 0
 HasBytes (Edit i bytes) = All (λ b. b < 2 ^ 8) bytes
 HasBytes (Append bytes) = All (λ b. b < 2 ^ 8) bytes
@@ -275,8 +272,7 @@ StepsTo x s step t = HasBytes step × ((t ≡ state_after x false s step) ⊎ (t
 
 -- these steps, one after another, lead from a state to another
 abbrev pub RunsTo : Setting → State → List Step → State → Type 0
-RunsTo x s [] t = t ≡ s
-RunsTo x s (step ∷ steps) t = (mid : State) × StepsTo x s step mid × RunsTo x mid steps t
+RunsTo x s steps t = FoldsTo (StepsTo x) s steps t
 
 -- a link as it begins, of a client of wide stores or of ordinary ones
 abbrev pub fresh_link : Bool → List ℕ → ClientLink

@@ -1,7 +1,7 @@
 -- What may be seen of a client, read off the log: the shapes of the frames that it sends and of the
 -- replies to them, and why its calls are refused.
 use Rattle.std.specs.Prelude.{◌≡◌, ◌≢◌, ◌==◌, ℕ, List, [], ◌∷◌, Option, Some, false, cond, slice_get}
-use Rattle.std.specs.List.{flat_map, AllByRecursion}
+use Rattle.std.specs.List.{flat_map, AllByRecursion, AllZip}
 use Rattle.frame_codec.specs.declared.refusal.Refusal.TheVariants.{Memory}
 use Rattle.frame_codec.specs.Refusals.{refused}
 use Rattle.snapshot_file.specs.declared.snapshot.Header.{Header}
@@ -26,7 +26,7 @@ pub data Sight : Type 0 where
   CallMade : (refusal : Option CallFault) → Sight
 
 -- what an entry shows of client k: of a frame or a reply its kind and length alone, of a call
--- whether it is refused, and nothing of an event
+-- whether it is refused, and why, and nothing of an event
 abbrev pub sights : ℕ → LogEntry → List Sight
 sights k (Sent j f) = cond (j == k) (FrameSent (shape_of_frame f) ∷ []) []
 sights k (Served j f now (Some reply)) = cond (j == k) (ReplyMade (shape_of_frame reply) ∷ []) []
@@ -44,12 +44,6 @@ HaveEqualSights log other = (k : ℕ) → flat_map (sights k) log ≡ flat_map (
 abbrev pub IsStepLike : Step → Step → Type 0
 IsStepLike (Ask k i) other = (j : ℕ) × (other ≡ Ask k j)
 IsStepLike step other = other ≡ step
-
--- as many steps, each the same as the other's, or both asks of one client
-abbrev pub AreStepsLike : List Step → List Step → Type 0
-AreStepsLike [] [] = Unit {0}
-AreStepsLike (step ∷ steps) (other ∷ others) = IsStepLike step other × AreStepsLike steps others
-AreStepsLike _ _ = ⊥
 
 -- ---- runs without refusals for memory or for an index that differs
 
@@ -85,16 +79,15 @@ pub record IsPlainRun (x : Setting) (s : State) (steps others : List Step) (t : 
 -- and none of the asks whose indices differ is refused for its index.
 abbrev pub IndicesChangeNoShape : Type 0
 IndicesChangeNoShape = (h : Header) (records : List ℕ) (seeds : List (List ℕ)) (steps others : List Step) (last last2 : State) →
-    IsOpening h records → AreStepsLike steps others →
+    IsOpening h records → AllZip IsStepLike steps others →
     IsPlainRun (setting_in h) (opening h records seeds) steps others last → IsPlainRun (setting_in h) (opening h records seeds) others steps last2 →
     HaveEqualSights last.log last2.log
 
 -- Take any run from `start` whose steps differ from these in the indices of asks alone, beside the
--- run of these that led to `s`. If in neither a reply is refused for lack of memory, nor an ask
--- whose index differs for its index, then each client has frames and replies of the same kinds and
--- lengths in both, in the same order, and the same calls of it are refused, for the same causes.
--- What the words of a query give away of its index is not said.
+-- run of these that led to `s`. Let no reply be refused for lack of memory in either run, and no
+-- ask whose index differs be refused for its index. Then each client has frames and replies of the
+-- same kinds and lengths in both, in the same order, and the same calls of it are refused, for the
+-- same causes. What the words of a query give away of its index is not said.
 abbrev pub HidesIndices : Setting → State → List Step → State → Type 0
-HidesIndices x start steps s = (others : List Step) (last : State) → AreStepsLike steps others →
-    AllByRecursion HadMemory s.log → AsksAreWithin x start steps others →
-    RunsTo x start others last → AllByRecursion HadMemory last.log → AsksAreWithin x start others steps → HaveEqualSights s.log last.log
+HidesIndices x start steps s = (others : List Step) (last : State) → AllZip IsStepLike steps others →
+    IsPlainRun x start steps others s → IsPlainRun x start others steps last → HaveEqualSights s.log last.log

@@ -3,7 +3,7 @@ use Rattle.std.specs.Prelude.{◌≡◌, ◌≤◌, ℕ, List, [], length, Optio
 use Rattle.pir_schemes.specs.declared.scheme.Scheme.{Scheme}
 use Rattle.pir_schemes.specs.declared.plan.Plan.{Plan}
 use Rattle.pir_schemes.specs.Plans.{shape_at, record_of}
-use Rattle.pir_schemes.specs.Retrievals.{hint_matrix, query_words, answer_words, reading, IsQuietOf}
+use Rattle.pir_schemes.specs.Retrievals.{hint_matrix, query_words, answer_words, reading}
 use Rattle.version_store.specs.Histories.{History, current_version, records_of}
 use Rattle.server_core.specs.Serving.{Setting}
 use Rattle.client_core.specs.declared.state.Hint.{Hint}
@@ -22,19 +22,16 @@ abbrev pub asked_words : Plan → List (List ℕ) → List ℕ → AcceptedAsk �
 asked_words p records seed r =
     query_words r.scheme (shape_at p (length records)) p.dimension p.seed seed r.number r.index
 
--- the words of its answer on some records
+-- the words of the answer to a retrieval's query on some records, for the client's seed
 abbrev pub given_words : Plan → List (List ℕ) → List ℕ → AcceptedAsk → List ℕ
 given_words p records seed r = answer_words r.scheme p records (asked_words p records seed r)
 
--- the record that its answer gives under their hint, if any
+-- the record that the answer to a retrieval's query gives on some records, under their hint, made
+-- from scratch; none if the answer's digits are no record
 abbrev pub record_read : Plan → List (List ℕ) → List ℕ → AcceptedAsk → Option (List ℕ)
 record_read p records seed r =
     let l = shape_at p (length records) in
     record_of p (reading r.scheme l (hint_matrix r.scheme p records) seed r.number r.index (given_words p records seed r))
-
--- the noise sums of a retrieval on some records stay below half of delta
-abbrev pub IsQuietOn : Plan → List (List ℕ) → List ℕ → AcceptedAsk → Type 0
-IsQuietOn p records seed r = IsQuietOf r.scheme p records seed r.number r.index
 
 -- the seed of client k
 abbrev pub seed_of : List (List ℕ) → ℕ → List ℕ

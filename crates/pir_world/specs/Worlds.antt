@@ -4,8 +4,8 @@ use Rattle.snapshot_file.specs.declared.snapshot.Header.{Header}
 use Rattle.server_core.specs.Cores.{Core}
 use Rattle.pir_world.specs.declared.steps.Step.{Step}
 use Rattle.pir_world.specs.declared.steps.Outcome.{Outcome}
-use Rattle.pir_world.specs.Runs.{State, RunsTo, opening, outcomes_of, setting_in}
-use Rattle.pir_world.specs.Headlines.{IsOpening}
+use Rattle.pir_world.specs.Runs.{State, outcomes_of, setting_in}
+use Rattle.pir_world.specs.Headlines.{IsRunFrom}
 use Rattle.pir_world.specs.Sides.{Side, Implements}
 
 -- the snapshot and the seeds it was opened with, the server, the clients' ends, the steps made and
@@ -23,8 +23,7 @@ pub record WorldSeen : Type 0 where
 -- a run of a world's steps from its opening leads to this state, whose outcomes the world has;
 -- until memory was refused in a step, its parts are the state's
 pub record IsRunOf (w : WorldSeen) (s : State) : Type 0 where
-  pub opens : IsOpening w.header w.records
-  pub run : RunsTo (setting_in w.header) (opening w.header w.records w.seeds) w.steps s
+  pub run : IsRunFrom w.header w.records w.seeds w.steps s
   pub outcomes_are : w.outcomes ≡ outcomes_of s.log
   pub parts : w.broken ≡ false → Implements (setting_in w.header) w.core w.ends w.outcomes s
 

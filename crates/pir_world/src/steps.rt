@@ -16,7 +16,8 @@ pub enum Step {
     Publish,
     /// A client greets the server as a reader.
     Hello { client: usize },
-    /// A client asks for the hint of the last version that it knows of.
+    /// A client asks for a scheme's hint: for the parts of that of the last version that it knows
+    /// of, or for what changed since the version of the SimplePIR hint that it holds.
     Sync { client: usize, scheme: Scheme },
     /// A client asks for record `index`.
     Ask { client: usize, index: u32 },

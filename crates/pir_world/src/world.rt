@@ -57,8 +57,9 @@ impl<K: Kernel> World<K> {
     /// The world of a snapshot's store and a client for each seed. Client k has session k, and its
     /// first retrieval has number 0.
     ///
-    /// Refused as `Store::open` refuses the snapshot: `BadLayout`, `BadVersion`, `BadRecords`,
-    /// `Memory`.
+    /// # Errors
+    ///
+    /// As `Store::open` refuses the snapshot: `BadLayout`, `BadVersion`, `BadRecords`, `Memory`.
     pub fn new(
         alloc: Global,
         kernel: K,
@@ -114,8 +115,10 @@ impl<K: Kernel> World<K> {
     /// none is refused for its index. An ask that is the same in both may be of no record, or come
     /// too early: it is refused alike, and sends nothing.
     ///
-    /// Clause `right` needs nothing but the steps to be believed; clause `run` says the same of a
-    /// run whose states and waiting bytes are the world's own.
+    /// Clause `right` names no part of the code: it says all this of some run of the steps that has
+    /// these outcomes. Clause `run` says it of a run whose last state, with the waiting bytes, is
+    /// the world's own until memory was refused in a step. Clause `extends` of [`World::step`]
+    /// leads each such run on by the step made: so its frames are those that the cores sent.
     pub fn outcomes(&self) -> &[Outcome]
         ensures kept { result.now ≡ self.now.outcomes }
         ensures run { (s : State) × IsRunOf self.now s × (result.now ≡ outcomes_of s.log) ×
@@ -142,6 +145,8 @@ impl<K: Kernel> World<K> {
     }
 
     /// Makes one step.
+    ///
+    /// # Errors
     ///
     /// `Broken` exactly when memory was refused in an earlier step; else `NoClient` exactly when
     /// the step names a client that there is none of, and the world is as it was; else it is made,

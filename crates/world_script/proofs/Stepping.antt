@@ -10,6 +10,7 @@ use Rattle.pir_world.specs.Runs.{State, StepsTo, setting_in, outcomes_of}
 use Rattle.pir_world.specs.Worlds.{WorldSeen, IsRunOf}
 use Rattle.pir_world.specs.Headlines.{IsOpening}
 use Rattle.pir_world.specs.Sides.{has_client}
+use Rattle.pir_world.proofs.Opening.{run_opens}
 use Rattle.world_script.specs.declared.line.Line.{Line}
 use Rattle.world_script.specs.declared.line.Line.TheVariants as line
 use Rattle.world_script.specs.declared.progress.Progress.TheVariants as progress
@@ -106,7 +107,7 @@ no_step c (line.Client x) h = refl
 pub opening_of : (f : Filling) (w : WorldSeen) → IsOpened f w → IsOpening (header_of_filling f) f.records
 opening_of f w h =
     subst (λ (x : List ℕ). IsOpening (header_of_filling f) x) h.records
-    (subst (λ (x : Header). IsOpening x w.records) h.header h.run.opens)
+    (subst (λ (x : Header). IsOpening x w.records) h.header (run_opens _ _ _ _ _ h.run.run))
 
 -- it is at its first place
 pub opened_is : (f : Filling) (w : WorldSeen) → IsOpened f w → opened_world f ≡ running_world w (opened_world f).state
