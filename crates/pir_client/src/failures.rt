@@ -9,6 +9,12 @@ use client_state::FolderFault;
 use command_words::Failure;
 use session_core::{CallFault, ConverseFault};
 
+/// Memory was refused.
+pub const MEMORY: CommandError = CommandError::Call(CallFault::Memory);
+
+/// A reply other than those that an ask may get.
+pub const BAD_REPLY: CommandError = CommandError::Conversation(ConverseFault::BadReply);
+
 /// The failure that is printed, with its exit status, of a command that was not done.
 pub fn failure_of(fault: CommandError) -> Failure
     ensures { IsReported fault result }

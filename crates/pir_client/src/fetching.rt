@@ -1,12 +1,13 @@
 //! A hint fetched part by part into its partial file, from the first part on that is not there.
 
+use crate::failures::{BAD_REPLY, MEMORY};
 use crate::progress::FetchProgress;
 use crate::server::Server;
 use client_commands::CommandError;
 use client_state::{Fetched, Folder, FolderFault, PartialFile};
 use hint_file::HintError;
 use pir_schemes::PART_WORDS;
-use session_core::{CallFault, ConverseFault, Scheme, ServerInfo};
+use session_core::{ConverseFault, Scheme, ServerInfo};
 use std::io::{ErrorKind, Read, Write};
 
 /// How many bytes come before the words of a part: the frame's length, its kind, the scheme, the
@@ -128,9 +129,6 @@ fn partial_in<'a>(
     }
 }
 
-/// Memory was refused.
-const MEMORY: CommandError = CommandError::Call(CallFault::Memory);
-
 // Asks for the next part, and reads the reply.
 fn ask_for_part(
     server: &Server,
@@ -164,9 +162,6 @@ fn ask_for_part(
     fill(server, room)?;
     Ok(Reply::Part)
 }
-
-/// A reply other than those that an ask for a part may get.
-const BAD_REPLY: CommandError = CommandError::Conversation(ConverseFault::BadReply);
 
 // Reads and drops what a reply has that is no part: a few bytes.
 fn skipped(server: &Server, len: u32) -> Result<Reply, CommandError> {

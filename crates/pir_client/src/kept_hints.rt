@@ -5,6 +5,7 @@ ghost use Rattle.std.specs.Prelude.{◌≡◌, ◌≤◌, IsTrue};
 ghost use Rattle.digit_pack.specs.Layout.{digit_rows};
 ghost use Rattle.pir_schemes.specs.Plans.{shape_at};
 
+use crate::failures::{BAD_REPLY, MEMORY};
 use crate::server::Server;
 use change_file::Block;
 use client_commands::CommandError;
@@ -14,7 +15,7 @@ use digit_pack::is_wide;
 use frame_codec::{Frame, FrameRead, ReadFault, Reader};
 use hint_file::{HintError, HintFields, KeptHead, KeptHint, PartSpan, parts_for};
 use kept_changes::{ChangesReply, changes_ask, hint_after, judged, rows_after};
-use session_core::{CallFault, ConverseFault, Hint, Lanes, Plan, Scheme, ServerInfo};
+use session_core::{ConverseFault, Hint, Lanes, Plan, Scheme, ServerInfo};
 use std::alloc::{AllocError, Global};
 use std::io::{Read, Write};
 
@@ -184,12 +185,6 @@ impl<'a> MovedHint<'a> {
         }
     }
 }
-
-/// Memory was refused.
-const MEMORY: CommandError = CommandError::Call(CallFault::Memory);
-
-/// A reply other than those that the ask may get.
-const BAD_REPLY: CommandError = CommandError::Conversation(ConverseFault::BadReply);
 
 // Whether a hint has the rows and columns of a plan, of which so many records have a layout.
 fn is_of_plan(plan: &Plan, hint: &Hint, count: usize) -> bool

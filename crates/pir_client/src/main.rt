@@ -1,5 +1,6 @@
-//! A client of one server on this machine: it retrieves a record privately, replaces one, or
-//! publishes. Without a command it rehearses a script of a whole world.
+//! A client of one server: it retrieves records privately, with a folder of hints or without, shows
+//! and drops these hints, and for the publisher replaces or appends a record, or publishes. Without
+//! a command it rehearses a script of a whole world.
 //!
 //! Exit statuses: 0 done, 1 refused by the server, 2 a bad command line, 3 a fault, 4 out of
 //! memory. What was done is one line on standard output; a failure is one line on standard error.

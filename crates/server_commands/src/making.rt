@@ -21,10 +21,10 @@ use std::io::Read;
 use std::str;
 
 /// The most record bytes: as many as there are words in the largest matrix.
-const MAX_RECORD_BYTES: usize = 33_554_432;
+const MAX_STORE_BYTES: usize = 33_554_432;
 
 /// The most record bytes of a wide store: 2^30 digits of 9 bits.
-const MAX_WIDE_RECORD_BYTES: usize = 1_207_959_552;
+const MAX_WIDE_STORE_BYTES: usize = 1_207_959_552;
 
 /// How many words a secret of a new store has.
 const DIMENSION: u16 = 1024;
@@ -112,9 +112,9 @@ pub fn most_bytes(wide: bool) -> usize
     ensures { result ≤ 1207959552 }
 {
     if wide {
-        MAX_WIDE_RECORD_BYTES
+        MAX_WIDE_STORE_BYTES
     } else {
-        MAX_RECORD_BYTES
+        MAX_STORE_BYTES
     }
 }
 

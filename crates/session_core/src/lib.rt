@@ -52,10 +52,10 @@ pub use blocking_io::{ConverseFault, Ending, ServeFault, converse, serve};
 pub use client_core::{
     CallFault, ClientCore, ClientFault, Event, Fed, Hint, SavedClient, Scheme, ServerInfo,
 };
-pub use digit_pack::Layout;
+pub use digit_pack::{Layout, LayoutError};
 pub use frame_codec::{Bytes, Words};
 pub use lane_kernels::Lanes;
-pub use matrix_u32::{Kernel, Matrix, Plain};
+pub use matrix_u32::{Kernel, Matrix, MatrixError, Plain};
 pub use once_session::{OnceFault, once};
 pub use pir_schemes::{Plan, answer_count, hint_len, is_certain, query_count};
 pub use server_core::{FeedError, ServerCore, SessionError, Standing};
@@ -63,4 +63,6 @@ pub use snapshot_file::{
     Header, MigrateError, Snapshot, SnapshotFault, WidenError, WriteFault, migrate, read_snapshot,
     read_snapshot_and_digest, snapshot_digest, widen, write_snapshot_bytes,
 };
-pub use version_store::{AppendError, EditError, OpenError, PublishError, Store, write_snapshot};
+pub use version_store::{
+    AnswerBuffers, AppendError, EditError, OpenError, PublishError, Store, write_snapshot,
+};
