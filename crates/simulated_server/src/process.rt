@@ -336,7 +336,8 @@ fn turn_over<'a>(
     (Some(serving), outcome)
 }
 
-// Serves. Returns whether anything was done.
+// Makes a turn of a connection that has a session. What is served is given back with what came of
+// the turn; nothing if a version could not be saved.
 fn serve<'a>(
     serving: Serving<SimulatedFile<'a>>,
     held: &mut Held,
