@@ -13,7 +13,8 @@
 //! finds, and reads one block after another by [`read_head`] and [`next_block`]. Nothing here knows
 //! a folder, and no entry is looked at.
 //!
-//! Its tests are in `tests_frame::change_files`.
+//! Its tests are in `tests_frame::change_files`; the worked example is in
+//! `tests_frame::changed_records`.
 #![tactic(auto)]
 
 mod blocks;

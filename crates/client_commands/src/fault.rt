@@ -13,7 +13,8 @@ pub enum CommandError {
     /// The version asked isn't current; this one is.
     #[error("version {0} is current")]
     Stale(u64),
-    /// The answer's digits set a bit past the record's last byte.
+    /// The answer's digits set a bit past the record's last byte, or their bytes are no slot, if
+    /// the store has slots.
     #[error("record {index} of version {version} can't be read")]
     Unreadable { index: u32, version: u64 },
     /// The secrets that the server wants have so many words, fewer than are accepted.

@@ -28,7 +28,7 @@ pub data ClientCall : Type 0 where
 abbrev pub hello_refusal : ClientState → Option CallFault
 hello_refusal c = if c.failed then Some Failed else (if is_some c.known then Some AlreadyWelcome else (if is_idle c.call then None else Some Busy))
 
--- sync, edit, append and publish have the same checks
+-- the checks that sync, edit, append and publish have in common: the first that applies refuses
 abbrev pub change_refusal : ClientState → Option CallFault
 change_refusal c = if c.failed then Some Failed else (if is_some c.known then (if is_idle c.call then None else Some Busy) else Some NotReady)
 

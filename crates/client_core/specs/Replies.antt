@@ -127,7 +127,7 @@ reaction_to_stale (Some k) after c asked version count =
 
 -- ---- Delta
 
--- the numbers ascend from one on, each once, and stay below another
+-- whether numbers ascend, each once, none below `from` and all below `limit`
 unfoldable pub are_ascending : ℕ → ℕ → List ℕ → Bool
 are_ascending from limit [] = true
 are_ascending from limit (i ∷ is) = (nat_le from i && nat_lt i limit) && are_ascending (i + 1) limit is
@@ -148,7 +148,7 @@ unfoldable pub with_rows_replaced : WordMatrix → List Row → WordMatrix
 with_rows_replaced m [] = m
 with_rows_replaced m (r ∷ rs) = with_rows_replaced (with_row m r.number r.words) rs
 
--- a hint of another version, with these rows in place of its own
+-- a hint brought to a version: with these rows in place of its own
 abbrev pub hint_with_rows : Hint → ℕ → RowList → Hint
 hint_with_rows h version rows = record h { version = version; matrix = with_rows_replaced h.matrix (rows_in rows) }
 
@@ -176,7 +176,7 @@ abbrev pub is_changes : ServerInfo → ℕ → ℕ → ℕ → ℕ → List ℕ 
 is_changes k asked since now count entries =
     (since == asked) && (is_current k now count && (are_entries (shape_at k.plan count) entries && have_slots k.plan entries))
 
--- a hint of another version, moved by the changes in entries, if that version has so many records
+-- a hint brought to a version of so many records: moved by the changes in entries
 abbrev pub hint_with_entries : Plan → Hint → ℕ → ℕ → List ℕ → Hint
 hint_with_entries p h version count entries =
     let l = shape_at p count in

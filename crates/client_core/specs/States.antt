@@ -17,7 +17,7 @@ abbrev pub is_idle : Call → Bool
 is_idle Idle = true
 is_idle _ = false
 
--- the last version known, 0 before the Welcome
+-- the last version known; 0 before the Welcome, when no sync and no ask is accepted
 abbrev pub known_version : Option ServerInfo → ℕ
 known_version None = 0
 known_version (Some k) = k.version
@@ -33,7 +33,8 @@ is_ready None hint = false
 is_ready (Some k) None = false
 is_ready (Some k) (Some h) = h.version == k.version
 
--- the scheme of the hint held; SimplePIR if there is none
+-- the scheme of the hint held; SimplePIR if there is none, which decides nothing: an ask is accepted
+-- only while a hint is held, and the hint stays until the ask ends
 abbrev pub scheme_held : Option Hint → Scheme
 scheme_held None = Simple
 scheme_held (Some h) = h.scheme

@@ -187,7 +187,9 @@ impl<K: Kernel> ClientCore<K> {
     /// What no comparison shows: other records under an equal plan, with its public seed, and an
     /// equal version. The hint is wrong for these.
     ///
-    /// Refused in this order: `Failed`, `NotReady` (no Welcome came yet), `Busy`. A refusal changes
+    /// # Errors
+    ///
+    /// In this order: `Failed`, `NotReady` (no Welcome came yet), `Busy`. A refusal changes
     /// nothing.
     pub fn resume(&mut self, saved: SavedClient) -> Result<bool, CallFault>
         ensures resumed { IsResumed self.old.state saved result self.new.state }
@@ -203,7 +205,9 @@ impl<K: Kernel> ClientCore<K> {
 
     /// Drops the hint held, if there is one: the next sync goes by parts.
     ///
-    /// Refused in this order: `Failed`, `NotReady` (no Welcome came yet), `Busy`. A refusal changes
+    /// # Errors
+    ///
+    /// In this order: `Failed`, `NotReady` (no Welcome came yet), `Busy`. A refusal changes
     /// nothing.
     pub fn drop_hint(&mut self) -> Result<(), CallFault>
         ensures dropped { IsDropped self.old.state result self.new.state }
@@ -217,8 +221,9 @@ impl<K: Kernel> ClientCore<K> {
     /// Asks to be let in: with a key of 32 zero bytes as a reader, with the publisher's key as the
     /// publisher. Gives the bytes to send. A client that isn't let in yet holds no hint.
     ///
-    /// Refused in this order: `Failed`, `AlreadyWelcome`, `Busy`, `Memory`. A refusal changes
-    /// nothing.
+    /// # Errors
+    ///
+    /// In this order: `Failed`, `AlreadyWelcome`, `Busy`, `Memory`. A refusal changes nothing.
     pub fn hello(&mut self, key: [u8; 32]) -> Result<Vec<u8>, CallFault>
         ensures accepted { IfOk result (λ bytes. Accepts self.old.state
             (ClientCall.Hello key) self.new.state bytes.items) }
@@ -243,8 +248,10 @@ impl<K: Kernel> ClientCore<K> {
     /// which it moves the hint itself. If the server doesn't have these, the parts are asked for.
     /// Gives the bytes to send; `feed` gives those that ask for the further parts.
     ///
-    /// Refused in this order: `Failed`, `NotReady` (no Welcome came yet), `Busy`, `Memory`. A
-    /// refusal changes nothing.
+    /// # Errors
+    ///
+    /// In this order: `Failed`, `NotReady` (no Welcome came yet), `Busy`, `Memory`. A refusal
+    /// changes nothing.
     pub fn sync(&mut self, scheme: Scheme) -> Result<Vec<u8>, CallFault>
         ensures accepted { IfOk result (λ bytes. Accepts self.old.state
             (ClientCall.Sync scheme) self.new.state bytes.items) }
@@ -305,10 +312,12 @@ impl<K: Kernel> ClientCore<K> {
     /// Asks for record `index` of the version whose hint is held, by a query of the hint's scheme
     /// that hides which. Gives the bytes to send.
     ///
-    /// Refused in this order: `Failed`; `NotReady` (no Welcome came yet, no hint is held, or its
-    /// version is not the last version known); `Busy`; `BadIndex` (the last version known has no
-    /// such record); `SeedUsedUp` (the next number is 2^62); `Memory`. The number is spent if
-    /// only `Memory` is left, and nothing else changes by a refusal.
+    /// # Errors
+    ///
+    /// In this order: `Failed`; `NotReady` (no Welcome came yet, no hint is held, or its version is
+    /// not the last version known); `Busy`; `BadIndex` (the last version known has no such record);
+    /// `SeedUsedUp` (the next number is 2^62); `Memory`. The number is spent if only `Memory` is
+    /// left, and nothing else changes by a refusal.
     pub fn ask(&mut self, index: u32) -> Result<Vec<u8>, CallFault>
         ensures accepted { IfOk result (λ bytes. Accepts self.old.state
             (ClientCall.Ask index) self.new.state bytes.items) }
@@ -345,8 +354,10 @@ impl<K: Kernel> ClientCore<K> {
     /// Gives the server these bytes, at most 65,535, for record `index` of the next version. It
     /// judges the index and the length. Gives the bytes to send.
     ///
-    /// Refused in this order: `Failed`, `NotReady` (no Welcome came yet), `Busy`, `Memory`. A
-    /// refusal changes nothing.
+    /// # Errors
+    ///
+    /// In this order: `Failed`, `NotReady` (no Welcome came yet), `Busy`, `Memory`. A refusal
+    /// changes nothing.
     pub fn edit(&mut self, index: u32, bytes: &[u8]) -> Result<Vec<u8>, CallFault>
         requires { length bytes.now ≤ 65535 }
         ensures accepted { IfOk result (λ sent. Accepts self.old.state
@@ -364,8 +375,10 @@ impl<K: Kernel> ClientCore<K> {
     /// Gives the server these bytes, at most 65,535, as one record more of the next version. It
     /// judges the length and whether it has room. Gives the bytes to send.
     ///
-    /// Refused in this order: `Failed`, `NotReady` (no Welcome came yet), `Busy`, `Memory`. A
-    /// refusal changes nothing.
+    /// # Errors
+    ///
+    /// In this order: `Failed`, `NotReady` (no Welcome came yet), `Busy`, `Memory`. A refusal
+    /// changes nothing.
     pub fn append(&mut self, bytes: &[u8]) -> Result<Vec<u8>, CallFault>
         requires { length bytes.now ≤ 65535 }
         ensures accepted { IfOk result (λ sent. Accepts self.old.state
@@ -383,8 +396,10 @@ impl<K: Kernel> ClientCore<K> {
     /// Asks the server to make its edits and the records appended the next version. Gives the bytes
     /// to send.
     ///
-    /// Refused in this order: `Failed`, `NotReady` (no Welcome came yet), `Busy`, `Memory`. A
-    /// refusal changes nothing.
+    /// # Errors
+    ///
+    /// In this order: `Failed`, `NotReady` (no Welcome came yet), `Busy`, `Memory`. A refusal
+    /// changes nothing.
     pub fn publish(&mut self) -> Result<Vec<u8>, CallFault>
         ensures accepted { IfOk result
             (λ bytes. Accepts self.old.state ClientCall.Publish self.new.state bytes.items) }

@@ -179,7 +179,8 @@ impl CallFault {
 /// Why a client stopped.
 #[derive(Clone, Copy, Debug, PartialEq, Eq, Error)]
 pub enum ClientFault {
-    /// A Welcome of another profile, with sizes beyond the limits, or with version 0.
+    /// A Welcome of the other kind of store than the greeting's (wide or ordinary), with a form or
+    /// sizes beyond the limits, or with version 0.
     #[error("a bad welcome")]
     BadWelcome,
     /// A reply that the outstanding call can't have, or no frame at all.

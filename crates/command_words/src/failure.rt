@@ -15,7 +15,8 @@ pub enum Failure {
     /// The version asked is not current any more, and this one is.
     #[error("stale {0}")]
     Stale(u64),
-    /// The record's digits set a bit past its last byte.
+    /// The answer's digits set a bit past the record's last byte, or their bytes are no slot, if
+    /// the store has slots.
     #[error("unreadable {index} {version}")]
     Unreadable { index: u32, version: u64 },
     /// A store, a file, input or a connection was refused, or failed: the name of it.

@@ -1,6 +1,6 @@
 //! Words of command lines as values, and how a command that was not done says so.
 //!
-//! Its tests are in tests/long/command_words and in `tests_world`, and those of the words
+//! Its tests are in tests/long/command_words and in `tests_world::words`, and those of the words
 //! themselves in `tests/command_line`.
 #![tactic(auto)]
 

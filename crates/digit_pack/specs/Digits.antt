@@ -4,15 +4,15 @@ use Rattle.matrix_u32.specs.Sum.{sum_below, list_of}
 use Rattle.lane_kernels.specs.Digit.{digit, split_count}
 use Rattle.matrix_u32.specs.Matrix.{WordMatrix, entry, matrix_of}
 
--- the first digits of a number
+-- the first `count` digits of w bits of a number, the least significant first
 abbrev pub digits_of : ℕ → ℕ → ℕ → List ℕ
 digits_of w count number = list_of count (λ t. digit w number t)
 
--- the number that digits write
+-- the number that digits of w bits write, the least significant first
 unfoldable pub number_of : ℕ → List ℕ → ℕ
 number_of w digits = sum_below (length digits) (λ t. slice_index digits t * 2 ^ (w * t))
 
--- row k split_count + t has digit t of row k
+-- row k * split_count + t has digit t of each word of row k
 abbrev pub decomposed_at : ℕ → WordMatrix → ℕ → ℕ → ℕ
 decomposed_at w a r j = digit w (entry a (r / split_count w) j) (r % split_count w)
 
@@ -20,7 +20,7 @@ decomposed_at w a r j = digit w (entry a (r / split_count w) j) (r % split_count
 abbrev pub decomposed : ℕ → WordMatrix → WordMatrix
 decomposed w a = matrix_of (a.rows * split_count w) a.cols (decomposed_at w a)
 
--- the word that digits write
+-- the word that digits of w bits write: their number modulo 2 ^ 32
 abbrev pub joined : ℕ → List ℕ → ℕ
 joined w digits = number_of w digits % 2 ^ 32
 

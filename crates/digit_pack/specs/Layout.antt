@@ -58,7 +58,7 @@ digit_rows l = l.groups * digits_per_record l
 abbrev pub digit_cols : Shape → ℕ
 digit_cols l = (l.count + l.groups - 1) / l.groups
 
--- record i is in this column, from this row on
+-- the column that record i is in
 abbrev pub column_of : Shape → ℕ → ℕ
 column_of l i = i / l.groups
 
@@ -82,7 +82,8 @@ record_digits l bytes = digits_of l.width (digits_per_record l) (number_of 8 byt
 abbrev pub record_bytes : Shape → List ℕ → List ℕ
 record_bytes l digits = digits_of 8 l.record_len (number_of l.width digits)
 
--- row r, column j has a digit of record j groups + r / digits_per_record
+-- the digit in row r, column j: digit r % digits_per_record of the record in place r /
+-- digits_per_record of the column, record j * groups + r / digits_per_record
 abbrev pub digit_at : Shape → List (List ℕ) → ℕ → ℕ → ℕ
 digit_at l records r j =
     digit l.width (number_of 8 (record_at records (j * l.groups + r / digits_per_record l))) (r % digits_per_record l)

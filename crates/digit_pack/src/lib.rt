@@ -6,7 +6,7 @@
 //! another in a column. `specs/` defines all of it; the functions of [`laws`] have empty bodies,
 //! and their contracts are the laws of these definitions.
 //!
-//! Its tests are in `tests_scheme::digits`.
+//! Its tests are in `tests_scheme::digits` and `tests_scheme::wide`.
 #![tactic(auto)]
 
 mod buffers;

@@ -293,7 +293,11 @@ pub(crate) fn chunk_of(words: &[u32], start: usize, count: usize) -> &[u32]
 ///
 /// `digits` and `a2` have the layout's rows, and the server's hint has a column for each of them
 /// and κ rows for each column of `a2`, of which there are at most 1024; the query has m + K ℓ
-/// words. Only refused memory gives an `Err`.
+/// words.
+///
+/// # Errors
+///
+/// Only refused memory gives an `Err`.
 pub fn answer<K: Kernel, S: DigitStore>(
     alloc: Global,
     kernel: K,

@@ -84,8 +84,12 @@ fn put_digit_row<S: DigitStore>(store: &mut S, words: &[u32], w: u32, r: usize)
 /// A1^T D^T, w bits to a digit, and the client's, the server's times A2.
 ///
 /// The first layer's hint is read across: no transposed copy is made, and nothing is held but the
-/// two hints and one of its columns. The store has room for the server's hint, and there are at
-/// most 1024 columns, so only refused memory gives an `Err`.
+/// two hints and one of its columns.
+///
+/// # Errors
+///
+/// Only refused memory gives an `Err`: the store has room for the server's hint, and there are at
+/// most 1024 columns.
 pub fn setup<K: Kernel, S: DigitStore>(
     alloc: Global,
     kernel: K,

@@ -325,12 +325,14 @@ fn read_record<K: Kernel>(
 /// The record that the answer to the query for record i gives, with the client's hint, seed and
 /// number of the retrieval. The hint has κ rows to a column, κ being the digits of a word, and at
 /// most 1024 columns. Which record was asked for is in the query alone: the reading is the same for
-/// every i.
+/// every i. If the hint and the answer are those of some records and the retrieval is quiet in both
+/// layers, the bytes are the record's.
+///
+/// # Errors
 ///
 /// `BadLength` exactly when the answer hasn't κ n + K κ (n + 1) words, for a hint of n columns and
 /// records of K digits; else `Memory`, or the bytes that the answer's reading writes, `BadDigits`
-/// exactly when the digits read set a bit past the record's last byte. If the hint and the answer
-/// are those of some records and the retrieval is quiet in both layers, the bytes are the record's.
+/// exactly when the digits read set a bit past the record's last byte.
 pub fn recover<K: Kernel>(
     alloc: Global,
     kernel: K,

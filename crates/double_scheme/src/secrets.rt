@@ -31,7 +31,11 @@ pub fn part_secrets(
     Matrix::from_words(parts, n, words).unwrap()
 }
 
-/// Zeros, a row of them for each part. Only refused memory gives an `Err`.
+/// Zeros, a row of them for each part.
+///
+/// # Errors
+///
+/// Only refused memory gives an `Err`.
 pub fn zero_products(alloc: Global, parts: usize, cols: usize) -> Result<Matrix, AllocError>
     requires { (parts ≤ 342) × (cols ≤ 32768) }
     ensures rows { IfOk result (λ m. m.rows ≡ parts) }

@@ -6,7 +6,7 @@ use Rattle.frame_codec.specs.Rows.{HasWholeRows}
 use Rattle.frame_codec.specs.declared.frame.Frame.{Frame}
 use Rattle.frame_codec.specs.declared.frame.Frame.TheVariants.{Load, Hello, HintAsk, DeltaAsk, Query, Edit, Publish, Bye, Append, ChangesAsk, Welcome, HintPart, Delta, Answer, Stale, Done, NoDelta, Changes, Refused}
 
--- the byte that names a frame's kind
+-- the byte that names a frame's kind: here in decimal, in the comments of `Frame` in hex
 abbrev pub kind_of : Frame → ℕ
 kind_of (Load record_len groups width records) = 1
 kind_of (Hello profile key) = 2

@@ -3,7 +3,7 @@
 //! A frame is the length of its payload (four bytes), its kind (one byte) and its payload, of at
 //! most 16,777,216 bytes. All numbers are little-endian: their lowest byte comes first.
 //!
-//! Its tests are in `tests_frame::frames` and `tests/long/tests_frame`.
+//! Its tests are in `tests_frame`: `frames`, `ahead`, `change_frames`, `room`, `refused_memory`.
 #![tactic(auto)]
 
 mod ahead;

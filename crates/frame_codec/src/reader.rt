@@ -23,8 +23,8 @@ pub enum ReadFault {
     /// A payload of more than 16,777,216 bytes, judged at the fourth byte of the frame.
     #[error("a payload of more than 16777216 bytes")]
     TooLong,
-    /// An unknown kind, judged at the fifth byte of the frame; 0a and 8a are kinds of a wide
-    /// database alone.
+    /// An unknown kind, judged at the fifth byte of the frame; 0a and 8a are kinds of a wide store
+    /// alone.
     #[error("an unknown kind of frame")]
     UnknownKind,
     /// A payload that no frame of its kind has, judged at the last byte of the payload.

@@ -7,7 +7,7 @@
 //! and the hint is then, word for word, the one made from scratch of the records after
 //! (`laws::changes_move_the_hint`).
 //!
-//! Its tests are in `tests/long/tests_scheme`.
+//! Its tests are in `tests_scheme::changes`.
 #![tactic(auto)]
 
 mod entries;

@@ -6,7 +6,7 @@
 //! rows of one record can be read alone. Nothing here knows a folder: whoever keeps a hint, in a
 //! file or elsewhere, writes and reads these bytes.
 //!
-//! Its tests are in tests/long/hint_file and in `tests_session`.
+//! Its tests are in tests/long/hint_file and `tests_session::hints`.
 #![tactic(auto)]
 
 mod digests;

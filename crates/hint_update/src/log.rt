@@ -39,8 +39,11 @@ impl Model for DeltaLog {
 }
 
 impl DeltaLog {
-    /// A log that begins with this version, with room for 16 lists; it keeps the allocator. Only
-    /// refused memory gives an `Err`.
+    /// A log that begins with this version, with room for 16 lists; it keeps the allocator.
+    ///
+    /// # Errors
+    ///
+    /// Only refused memory gives an `Err`.
     pub fn new(alloc: Global, version: u64) -> Result<DeltaLog, AllocError>
         ensures { IfOk result (λ log. log ≡ record { version = version; lists = [] }) }
     {
@@ -76,7 +79,11 @@ impl DeltaLog {
     /// version is the current one.
     ///
     /// `None` exactly when the version is neither the current one nor one of the 16 before it that
-    /// the log has seen. Only refused memory gives an `Err`.
+    /// the log has seen.
+    ///
+    /// # Errors
+    ///
+    /// Only refused memory gives an `Err`.
     pub fn rows_since(&self, version: u64) -> Result<Option<Vec<u32>>, AllocError>
         ensures none { IfOk result (λ found. IsNone found ↔ ¬ ReachesBack self.now version) }
         ensures rows { IfOk result (λ found. IfSome found (λ rows.

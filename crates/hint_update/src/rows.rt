@@ -53,8 +53,11 @@ pub struct RowsBuffers {
 }
 
 impl RowsBuffers {
-    /// Memory for `most` rows, over a public matrix with so many columns. Only refused memory gives
-    /// an `Err`.
+    /// Memory for `most` rows, over a public matrix with so many columns.
+    ///
+    /// # Errors
+    ///
+    /// Only refused memory gives an `Err`.
     pub fn new(alloc: Global, most: usize, cols: usize, w: u32) -> Result<RowsBuffers, AllocError>
         requires most { most ≤ 4096 }
         requires cols { cols ≤ 1024 }

@@ -51,8 +51,11 @@ pub struct WordsBuffers {
 }
 
 impl WordsBuffers {
-    /// Memory for so many words, over `most` rows of a public matrix with so many columns. Only
-    /// refused memory gives an `Err`.
+    /// Memory for so many words, over `most` rows of a public matrix with so many columns.
+    ///
+    /// # Errors
+    ///
+    /// Only refused memory gives an `Err`.
     pub fn new(
         alloc: Global,
         words: usize,

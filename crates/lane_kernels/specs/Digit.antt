@@ -2,7 +2,7 @@
 use Rattle.std.specs.Prelude.{ℕ, ◌+◌, ◌*◌, ◌/◌, ◌%◌, ◌^◌, List, length, slice_index}
 use Rattle.matrix_u32.specs.Sum.{list_of}
 
--- digit t of a number
+-- digit t of a number to base 2 ^ w, counted from 0, the least significant first
 unfoldable pub digit : ℕ → ℕ → ℕ → ℕ
 digit w number t = number / 2 ^ (w * t) % 2 ^ w
 

@@ -36,7 +36,7 @@ pub enum DraftFault {
 ///
 /// `NothingToPublish` exactly when no edit and no append was accepted since the last publication;
 /// else `VersionsUsedUp` exactly when the current version is 2^64 - 1; else it is made, or
-/// `TooLong`, or `Memory`.
+/// `TooLong` if a publication would have 2^32 bytes or more (no clause says so), or `Memory`.
 pub fn draft_publication<K: Kernel>(
     alloc: Global,
     store: &Store<K>,

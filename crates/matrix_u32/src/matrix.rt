@@ -72,6 +72,8 @@ impl Model for Matrix {
 impl Matrix {
     /// A matrix of zeros.
     ///
+    /// # Errors
+    ///
     /// `TooLarge` exactly when rows times columns is above [`MAX_WORDS`], judged before any memory
     /// is asked for; else the matrix, or `Memory`.
     pub fn zeros(alloc: Global, rows: usize, cols: usize) -> Result<Matrix, MatrixError>
@@ -89,6 +91,8 @@ impl Matrix {
     }
 
     /// A matrix of these words, given row by row. Takes no memory.
+    ///
+    /// # Errors
     ///
     /// `TooLarge` exactly when rows times columns is above [`MAX_WORDS`], whatever the count of
     /// words; `WrongCount` exactly when it isn't and the words are not rows times columns; never
@@ -162,13 +166,14 @@ impl Matrix {
     }
 
     /// Appends rows of these words, given row by row. The matrix's own memory grows for them, once,
-    /// and only if it has no room.
+    /// and only if it has no room. Rows that were there never change.
+    ///
+    /// # Errors
     ///
     /// `TooLarge` exactly when the words held and those given are together more than [`MAX_WORDS`],
     /// which is judged first; else `WrongCount` exactly when the words given are not a whole number
     /// of rows: if the matrix has no columns, no words add no row, and any others are refused; else
-    /// `Memory` if the growth is refused. At a refusal the matrix stays as it was. Rows that were
-    /// there never change.
+    /// `Memory` if the growth is refused. At a refusal the matrix stays as it was.
     pub fn push_rows(&mut self, words: Vec<u32>) -> Result<(), MatrixError>
         ensures pushed { OnOk result (self.new ≡ with_rows self.old words.items) }
         ensures kept { OnOk result (first_rows self.new self.old.rows ≡ self.old) }

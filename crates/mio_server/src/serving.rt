@@ -220,7 +220,7 @@ fn fault_of_status(fault: StatusFault) -> RunFault {
     }
 }
 
-// Listens.
+// A service that listens on an address, with its buffer, its clock and its free places.
 fn open_service(rt: &HostRuntime, address: SocketAddr, limits: Limits) -> Result<Service, RunFault>
     ensures limits { IfOk result (λ service. service.limits ≡ limits) }
     ensures free { IfOk result (λ service.

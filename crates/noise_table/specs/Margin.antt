@@ -14,11 +14,12 @@ signed_sum_below (suc n) f = signed_sum_below n f +ℤ f n
 abbrev pub noise_sum : List ℕ → List ℤ → ℤ
 noise_sum x e = signed_sum_below (length x) (λ j. pos (slice_index x j) *ℤ slice_index_or e j (pos 0))
 
--- a row of digits of w bits is quiet under noise whose sum stays below half of delta
+-- a row x of digits of w bits is quiet under noise e: their noise sum stays below half of delta,
+-- either way
 abbrev pub IsQuiet : ℕ → List ℕ → List ℤ → Type 0
 IsQuiet w x e = unsigned_abs (noise_sum x e) < delta w / 2
 
--- so few digits of w bits that a row of them is quiet whatever its noise is: the greatest noise, 27,
--- times the greatest digit, once for each of them, stays below half of delta
+-- so few digits of w bits that a row of them is quiet whatever its noise is: the greatest noise,
+-- 27, times the greatest digit, once for each of them, stays below half of delta
 abbrev pub IsCertain : ℕ → ℕ → Type 0
 IsCertain w terms = 27 * (2 ^ w - 1) * terms < delta w / 2

@@ -5,7 +5,7 @@
 //! Exit statuses: 0 done, 2 a bad command line, 3 a fault or a bad line of an import, 4 out of
 //! memory. What was done is printed on standard output; a failure is one line on standard error.
 //!
-//! Its tests are in `tests/publisher`.
+//! Its tests are in `tests/publisher` and `tests/replicas`.
 #![tactic(auto)]
 
 mod commands;

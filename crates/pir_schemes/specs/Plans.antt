@@ -46,15 +46,16 @@ pub record IsRecordOf (p : Plan) (bytes : List ℕ) : Type 0 where
   pub fits : fits p bytes ≡ true
   pub each : All (λ b. b < 2 ^ 8) bytes
 
--- the bytes that a record has in the digits
+-- the bytes that stand for a record in the digits: its slot in forms of slots, else its own
 unfoldable pub slot : Plan → List ℕ → List ℕ
 slot p bytes = if is_slotted p.form then slot_of p.record_len bytes else bytes
 
--- whether a record has these bytes in the digits
+-- whether bytes may stand for a record in the digits: in forms of slots whether they are a slot,
+-- and in the others always, however many they are
 unfoldable pub is_slot_of : Plan → List ℕ → Bool
 is_slot_of p bytes = if is_slotted p.form then is_slot bytes else true
 
--- the record that has these bytes in the digits
+-- the record for which bytes stand in the digits
 unfoldable pub content : Plan → List ℕ → List ℕ
 content p bytes = if is_slotted p.form then content_of bytes else bytes
 

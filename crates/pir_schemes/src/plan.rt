@@ -41,8 +41,11 @@ impl Plan {
         }
     }
 
-    /// The sizes of `count` records, accepted exactly when all are within the limits; else the
-    /// first cause is named, in the order of [`LayoutError`].
+    /// The sizes of `count` records, accepted exactly when all are within the limits.
+    ///
+    /// # Errors
+    ///
+    /// The first cause, in the order of [`LayoutError`].
     pub fn layout(&self, count: usize) -> Result<Layout, LayoutError>
         ensures accepted { IfOk result (λ l. (l ≡ shape_at self.now count) × IsLayout l) }
         ensures refused { IfErr result (IsLayoutFault (shape_at self.now count)) }

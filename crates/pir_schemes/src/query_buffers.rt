@@ -45,7 +45,11 @@ impl Model for QueryBuffers {
 }
 
 impl QueryBuffers {
-    /// Memory for a query of a scheme on `count` records. Only refused memory gives an `Err`.
+    /// Memory for a query of a scheme on `count` records.
+    ///
+    /// # Errors
+    ///
+    /// Only refused memory gives an `Err`.
     pub fn new(
         alloc: Global,
         scheme: Scheme,

@@ -86,8 +86,11 @@ impl Model for QueryMasks {
 
 impl QueryMasks {
     /// The masks of the `count` retrievals of a client's seed from number `first` on, at most 16,
-    /// on a version with so many records. Only refused memory gives an `Err`; it is asked for
-    /// first, by sizes alone.
+    /// on a version with so many records.
+    ///
+    /// # Errors
+    ///
+    /// Only refused memory gives an `Err`; it is asked for first, by sizes alone.
     pub fn new<K: Kernel>(
         alloc: Global,
         kernel: K,

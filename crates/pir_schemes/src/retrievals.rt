@@ -15,6 +15,8 @@ use std::alloc::Global;
 /// The record that an answer gives for record i of `count` records of the plan, under the hint of
 /// its version.
 ///
+/// # Errors
+///
 /// `BadLength` exactly when the answer hasn't the scheme's count of words, `BadDigits` exactly when
 /// it has and its digits set a bit past the record's last byte, or, if the plan has slots, their
 /// bytes are no slot; `Memory` only if it has its words.

@@ -1,7 +1,7 @@
 //! A server of private information retrieval on this machine: it makes a snapshot file of records,
-//! shows one, copies one, gives one another publisher's key, shortens its log, and serves one to
-//! clients over connections. Without a command it serves one database over standard input and
-//! output.
+//! shows one, copies one, moves its records into slots or into a wide store, gives one another
+//! publisher's key, shortens its log, and serves one to clients over connections. Without a command
+//! it serves one database over standard input and output.
 //!
 //! Exit statuses: 0 done, 2 a bad command line, 3 a fault, 4 out of memory. What was done is
 //! printed on standard output; a failure is one line on standard error.

@@ -5,7 +5,7 @@
 //! `hint_changes` moves a hint by them. A log keeps the newest 16 publications at most, and so many
 //! bytes at most; the oldest go first.
 //!
-//! Its tests are in `tests/long/tests_store`.
+//! Its tests are in `tests_store::old_records`.
 #![tactic(auto)]
 
 mod entries;

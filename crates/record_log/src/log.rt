@@ -42,7 +42,11 @@ impl Model for RecordLog {
 
 impl RecordLog {
     /// A log of records of `record_len` bytes, which keeps `most` of their old bytes at most: no
-    /// publication yet. Only refused memory gives an `Err`.
+    /// publication yet.
+    ///
+    /// # Errors
+    ///
+    /// Only refused memory gives an `Err`.
     pub fn new(alloc: Global, record_len: usize, most: usize) -> Result<RecordLog, AllocError>
         requires { record_len ≤ 256 }
         ensures { IfOk result (λ log. log ≡
@@ -79,8 +83,11 @@ impl RecordLog {
 
     /// What changed since the version before the newest n publications, as entries: of each record
     /// that differs from the current one, ascending. `current` has the `count` records of the
-    /// current version. None exactly if the entries have more than `most` bytes. Only refused
-    /// memory gives an `Err`.
+    /// current version. None exactly if the entries have more than `most` bytes.
+    ///
+    /// # Errors
+    ///
+    /// Only refused memory gives an `Err`.
     pub fn changes_since<S: RecordSource>(
         &self,
         alloc: Global,

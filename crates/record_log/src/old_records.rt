@@ -46,8 +46,11 @@ impl OldRecords {
         }
     }
 
-    /// Adds a record with a greater number than those before. Only refused memory gives an `Err`,
-    /// and then nothing has changed.
+    /// Adds a record with a greater number than those before.
+    ///
+    /// # Errors
+    ///
+    /// Only refused memory gives an `Err`, and then nothing has changed.
     pub fn push(&mut self, number: u32, bytes: &[u8]) -> Result<(), AllocError>
         requires len { length bytes.now ≡ self.old.record_len }
         requires later { All (λ old. old.index < number) self.old.records }

@@ -40,11 +40,14 @@ pub enum ReplaceFault {
 /// device.
 ///
 /// `Ok` comes only after all five. Nothing is renamed before its bytes were written and sent to the
-/// device, and nothing is written after that. A new file that was not given the name is removed.
+/// device, and nothing is written after that. A new file that was not given the name is removed, or
+/// left if that fails.
 ///
 /// # Errors
 ///
-/// Each exactly when its step failed; no further step but the removal is then taken.
+/// `Make`, `Sync`, `Rename` and `SyncFolder` exactly when that step failed. `Write` and `Memory` as
+/// the content answers: no clause says that a write failed or that memory was refused. No step is
+/// taken then but the removal of a new file that was not given the name.
 pub fn replace<D: Disk, C: Content>(
     alloc: Global,
     disk: &mut D,
@@ -73,7 +76,8 @@ pub fn replace<D: Disk, C: Content>(
 /// [`Content`]: sends it to the device, gives it the old one's name, and sends the folder to the
 /// device.
 ///
-/// `Ok` comes only after all three. A new file that was not given the name is removed.
+/// `Ok` comes only after all three. A new file that was not given the name is removed, or left if
+/// that fails.
 ///
 /// # Errors
 ///

@@ -82,8 +82,9 @@ ServesStreams x h before (fed ∷ later) end after replies =
     × FeedsSession x h (before fed.0) fed.1 (Ok done) next (between fed.0) first × (lacks_memory first ≡ false)
     × ((other : ℕ) → other ≢ fed.0 → between other ≡ before other) × (replies ≡ first ∷ others) × ServesStreams x next between later end after others
 
--- Two servers whose histories are equal reply alike to every stream of frames, of however many
--- sessions, and their histories are equal after it: so equal publications keep replicas equal.
+-- Two servers of one setting and of equal histories, whose sessions were alike before, reply alike
+-- to the same pieces of streams, of however many sessions, and have equal histories and sessions
+-- alike after them, if memory is refused to neither: so equal publications keep replicas equal.
 abbrev pub ReplicasReplyAlike : Type 0
 ReplicasReplyAlike = (x : Setting) (h : History) (pieces : List (ℕ × List ℕ)) (before before2 : ℕ → Session) (end end2 : History)
     (after after2 : ℕ → Session) (replies replies2 : List (List Frame))

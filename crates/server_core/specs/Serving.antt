@@ -39,8 +39,8 @@ setting_of s = record { plan = s.edition.plan; publisher = s.publisher }
 abbrev pub is_wide_setting : Setting → Bool
 is_wide_setting x = is_wide x.plan.form
 
--- how many bytes the entries of changed records may have in a reply: no more than fit into a frame,
--- and an eighth of the hint's
+-- how many bytes the entries of changed records may have in a reply: as many as fit into a frame,
+-- or an eighth of those of a SimplePIR hint, if that is less
 abbrev pub most_entry_bytes : Setting → ℕ
 most_entry_bytes x = min 16777196 (most_old_bytes x.plan)
 
@@ -133,7 +133,7 @@ abbrev pub is_closed : Standing → Bool
 is_closed Closed = true
 is_closed _ = false
 
--- a part of a hint is asked for
+-- what an ask for a part of a hint leads to, of a sender that was greeted
 abbrev pub hint_asked : Setting → History → Standing → Option Scheme → ℕ → ℕ → AfterFrame
 hint_asked x h st None version part = refusal_given refusal.BadScheme st h
 hint_asked x h st (Some scheme) version part =
@@ -143,12 +143,12 @@ hint_asked x h st (Some scheme) version part =
     else refusal_given refusal.BadPart st h)
     else stale_given st h
 
--- what changed can't be given, and the hint has to be fetched whole
+-- the reply that what changed can't be given: the hint has to be fetched whole
 abbrev pub no_delta_given : Standing → History → AfterFrame
 no_delta_given st h = reply_given (NoDelta (current_version h) (length h.current)) st h
 
--- the rows that changed since a version are asked for, and these are they: all are given, with the
--- words of the current hint, if there are at most 1024 of them, and else none
+-- What an ask for rows that changed since a version leads to: to all of them, with the words of the
+-- current hint, if they are known and 1024 at most, and else to none.
 abbrev pub delta_asked : Setting → History → Standing → ℕ → Option (List ℕ) → AfterFrame
 delta_asked x h st since None = no_delta_given st h
 delta_asked x h st since (Some rows) =
@@ -156,13 +156,13 @@ delta_asked x h st since (Some rows) =
     then reply_given (Delta since (current_version h) (length h.current) (named_hint_rows x h.current rows)) st h
     else no_delta_given st h
 
--- the records that changed since a version are asked for, and these are the entries of what
--- differs, if they can be given
+-- What an ask for records that changed since a version leads to: to the entries of what differs, if
+-- they can be given.
 abbrev pub changes_asked : Setting → History → Standing → ℕ → Option (List ℕ) → AfterFrame
 changes_asked x h st since None = no_delta_given st h
 changes_asked x h st since (Some entries) = reply_given (Changes since (current_version h) (length h.current) entries) st h
 
--- a query is asked
+-- what a query leads to, of a sender that was greeted
 abbrev pub query_asked : Setting → History → Standing → Option Scheme → ℕ → List ℕ → AfterFrame
 query_asked x h st None version words = refusal_given refusal.BadScheme st h
 query_asked x h st (Some scheme) version words =
@@ -227,7 +227,8 @@ may_lack_memory (Some (Stale version count)) = false
 may_lack_memory (Some (Refused code)) = false
 may_lack_memory (Some reply) = true
 
--- whether every check is passed, and the reply or the change takes memory
+-- whether a frame may be refused for lack of memory: it passes every check, and its reply is none
+-- of those that need no memory (`may_lack_memory`)
 abbrev pub takes_memory : Setting → History → Standing → Frame → Bool
 takes_memory x h st f = may_lack_memory (after_frame x h st f).reply
 

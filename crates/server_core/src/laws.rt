@@ -63,10 +63,11 @@ pub fn sessions_never_meet()
     pieces_decide();
 }
 
-/// Replicas reply alike: two servers whose histories are equal, in one setting, give the same
-/// replies to the same pieces of streams, of however many sessions, and have equal histories after
-/// them, if memory isn't refused. (A server that was started from a later snapshot has a shorter
-/// history, and may reply NoDelta or name no changes if another still knows them.)
+/// Replicas reply alike: two servers whose histories are equal, in one setting, and whose sessions
+/// were alike before, give the same replies to the same pieces of streams, of however many
+/// sessions, and have equal histories after them, if memory is refused to neither. (A server that
+/// was started from a later snapshot has a shorter history, and may reply NoDelta or name no
+/// changes if another still knows them.)
 pub fn replicas_reply_alike()
     ensures { ReplicasReplyAlike }
 {

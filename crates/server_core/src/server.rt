@@ -89,6 +89,8 @@ impl<K: Kernel> ServerCore<K> {
 
     /// Opens a session: its stream is empty so far, and no greeting was accepted.
     ///
+    /// # Errors
+    ///
     /// `IdInUse` exactly when there is one of this number, also a closed one; else it is opened, or
     /// `Memory`. A refused opening changes nothing.
     pub fn open_session(&mut self, id: u64) -> Result<(), SessionError>
@@ -334,8 +336,8 @@ impl<K: Kernel> ServerCore<K> {
         true
     }
 
-    /// Gives up the answer of a session that is closed, and forgets that such a
-    /// session waits to publish.
+    /// Gives up the answer of one session that is closed, if there is one; the next call takes the
+    /// next one. Forgets a publication that waits, if its session is closed.
     fn forget_closed(&mut self)
         ensures { self.new ≡ self.old }
     {
@@ -393,6 +395,10 @@ impl<K: Kernel> ServerCore<K> {
     }
 
     /// Replaces record i of the draft, as [`Store::edit`] does. No session changes.
+    ///
+    /// # Errors
+    ///
+    /// Those of [`Store::edit`]: nothing changes then.
     pub fn edit(&mut self, i: usize, bytes: &[u8]) -> Result<(), EditError>
         ensures accepted { OnOk result (self.new.store ≡ record self.old.store {
           draft = slice_set self.old.store.draft i bytes.now;
@@ -411,6 +417,10 @@ impl<K: Kernel> ServerCore<K> {
     }
 
     /// Puts a record after those of the draft, as [`Store::append`] does. No session changes.
+    ///
+    /// # Errors
+    ///
+    /// Those of [`Store::append`]: nothing changes then.
     pub fn append(&mut self, bytes: &[u8]) -> Result<(), AppendError>
         ensures accepted { OnOk result
             (self.new.store ≡ held_appended bytes.now self.old.store) }
@@ -440,6 +450,10 @@ impl<K: Kernel> ServerCore<K> {
 
     /// Makes the draft the current version and returns its number, as [`Store::publish`] does. No
     /// session changes.
+    ///
+    /// # Errors
+    ///
+    /// Those of [`Store::publish`]: nothing changes then.
     pub fn publish(&mut self) -> Result<u64, PublishError>
         ensures version { IfOk result (λ v. (v ≡ self.old.store.version + 1) × (v < 2 ^ 64)) }
         ensures done { OnOk result (self.new.store ≡ held_published self.old.store) }
@@ -456,13 +470,15 @@ impl<K: Kernel> ServerCore<K> {
     }
 
     /// Takes the next piece of a session's stream, and adds to `out` the replies to the frames that
-    /// are whole now, each served against the version that is current then.
+    /// are whole now, each served against the version that is current then. A closed session takes
+    /// bytes and replies nothing. No other session changes.
+    ///
+    /// # Errors
     ///
     /// `NoSession` exactly when there is no session of this number: nothing changes. At `Memory`
     /// the session is closed and `out` has gained the whole replies to the frames before the one at
     /// hand, which isn't served: there was no room in `out` for a reply, or the reading was refused
-    /// memory after just these frames. A closed session takes bytes and replies nothing. No other
-    /// session changes.
+    /// memory after just these frames.
     pub fn feed(&mut self, id: u64, piece: &[u8], out: &mut Vec<u8>) -> Result<(), FeedError>
         ensures fed { (h : History) → StandsFor self.old.store h → (old : sessions.Session) →
             session_of self.old.sessions id ≡ Some old →
@@ -495,12 +511,14 @@ impl<K: Kernel> ServerCore<K> {
 
     /// Takes the next piece of a session's stream up to the end of the first frame that is whole
     /// then, adds to `out` the reply to it, and returns how many bytes it took: what
-    /// [`ServerCore::feed`] of just these bytes does. If no frame is whole it takes all, also
-    /// if a fault stands in the frame's place.
+    /// [`ServerCore::feed`] of just these bytes does. If no frame is whole it takes all, also if a
+    /// fault stands in the frame's place. A closed session takes all and replies nothing. No other
+    /// session changes.
+    ///
+    /// # Errors
     ///
     /// `NoSession` exactly when there is no session of this number: nothing changes. At `Memory`
-    /// the session is closed, and nothing was served. A closed session takes all and replies
-    /// nothing. No other session changes.
+    /// the session is closed, and nothing was served.
     pub fn feed_frame(
         &mut self,
         id: u64,

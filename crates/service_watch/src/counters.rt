@@ -152,7 +152,7 @@ fn scheme_offset(scheme: u8) -> usize
     if scheme == 1 { 1 } else { 0 }
 }
 
-// Where refusals of a code are counted.
+// Where refusals of a code are counted. No server makes code 0, which would be counted as NoDelta.
 fn refusal_slot(code: u8) -> usize
     ensures slot { result ≡ refusal_slot code }
     ensures within { result < 48 }

@@ -29,11 +29,14 @@ impl HintWatcher for Unwatched {
 }
 
 /// The hint of a matrix of digits: the digits times the public matrix `a1`, which has a row for
-/// each column of digits. The hint has as many rows as the digits, and as many columns as `a1`; at
-/// most 33,554,432 words are a condition, so that only refused memory gives an `Err`.
+/// each column of digits. The hint has as many rows as the digits, and as many columns as `a1`.
 ///
 /// The digits are read once each, some rows at a time, and these rows are given back before the
 /// next are read.
+///
+/// # Errors
+///
+/// Only refused memory gives an `Err`: that the hint has at most 33,554,432 words is a condition.
 pub fn setup<K: Kernel, S: DigitStore>(
     alloc: Global,
     kernel: K,

@@ -45,7 +45,11 @@ impl Model for MaskBuffers {
 
 impl MaskBuffers {
     /// Memory for the masks of `count` retrievals on a layout, under a public matrix of `dimension`
-    /// columns. Both are at most 1024, so that only refused memory gives an `Err`.
+    /// columns. Both are at most 1024.
+    ///
+    /// # Errors
+    ///
+    /// Only refused memory gives an `Err`.
     pub fn new(
         alloc: Global,
         layout: &Layout,

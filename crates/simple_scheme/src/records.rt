@@ -67,8 +67,11 @@ fn read_all<K: Kernel>(
     Ok(digits)
 }
 
-/// The record that digits write, in a buffer of its length: `BadDigits` exactly when they set a bit
-/// past the record's last byte, and never `Memory`.
+/// The record that digits write, in a buffer of its length.
+///
+/// # Errors
+///
+/// `BadDigits` exactly when they set a bit past the record's last byte, and never `Memory`.
 pub fn record_of_digits(
     layout: &Layout,
     digits: &[u32],
@@ -109,12 +112,14 @@ fn read_record<K: Kernel>(
 }
 
 /// The record that the answer to the query for record i gives, with the client's seed and the
-/// number of the retrieval.
+/// number of the retrieval. If the hint and the answer are those of some records and the retrieval
+/// is quiet, the bytes are the record's.
+///
+/// # Errors
 ///
 /// `BadLength` exactly when the answer hasn't a word for each row; else `Memory`, or the bytes that
 /// the answer's reading writes, `BadDigits` exactly when the digits read set a bit past the
-/// record's last byte. If the hint and the answer are those of some records and the retrieval is
-/// quiet, the bytes are the record's.
+/// record's last byte.
 pub fn recover<K: Kernel>(
     alloc: Global,
     kernel: K,

@@ -4,7 +4,8 @@
 //! SHA-256 digest (FIPS 180-4) of all bytes before it. `specs/Snapshots.antt` defines these bytes,
 //! `specs/Verdicts.antt` what a reader makes of an input. Numbers have their lowest byte first.
 //!
-//! Its tests are in `tests_frame::snapshots` and `tests/long/tests_frame`.
+//! Its tests are in `tests_frame`: `snapshots`, `slots`, `wide`, `copies`, `room`; and in
+//! `tests_store::refused_memory`.
 #![tactic(auto)]
 
 mod copying;

@@ -21,7 +21,7 @@ pub record Records : Type 0 where
 abbrev pub version_shape : Records → Shape
 version_shape e = shape_at e.plan (length e.records)
 
--- a record before its bytes are given: none, or if all records have one length, so many zeros
+-- a record before its bytes are given: in forms of slots one of no bytes, else all zeros
 abbrev pub blank : Plan → List ℕ
 blank p = if is_slotted p.form then [] else replicate p.record_len 0
 

@@ -137,7 +137,8 @@ version_records h v = unwrap_or (records_of h v) []
 abbrev pub next_changes : Plan → History → ℕ → List ℕ
 next_changes p h v = changed_rows (digits_at p (version_records h v)) (digits_at p (version_records h (v + 1)))
 
--- whether some two consecutive versions from one to the current one differ in row r of the digits
+-- whether in row r of the digits some two consecutive versions differ, from version `since` to the
+-- current one
 abbrev pub changed_since : Plan → History → ℕ → ℕ → Bool
 changed_since p h since r = list_any (λ v. list_any (nat_eq r) (next_changes p h v)) (range_with_len since (current_version h - since))
 
@@ -145,9 +146,9 @@ changed_since p h since r = list_any (λ v. list_any (nat_eq r) (next_changes p 
 abbrev pub is_recent : History → ℕ → Bool
 is_recent h v = nat_le h.first v && (nat_le v (current_version h) && nat_le (current_version h - v) 16)
 
--- The rows of digits in which some two consecutive versions from one to the current one differ,
--- ascending, each once; none if that one is neither the current version nor one of the 16 before
--- it.
+-- The rows of digits in which some two consecutive versions differ, from version `since` to the
+-- current one, ascending, each once; None if `since` is neither the current version nor one of the
+-- 16 before it.
 unfoldable pub delta_rows : Plan → History → ℕ → Option (List ℕ)
 delta_rows p h since =
     if is_recent h since then Some (filter (changed_since p h since) (range_with_len 0 (digit_rows (shape_at p (length h.current)))))

@@ -36,8 +36,9 @@ abbrev pub with_newest : KeptLog → Option OldBytes → KeptLog
 with_newest log None = log
 with_newest log (Some newest) = record log { lists = kept_within log.record_len log.most (log.lists ++ newest.records ∷ []) }
 
--- what is kept of old bytes after one more publication: in a wide store the newest within both
--- limits; in an ordinary store, which keeps none, what there was
+-- what is kept of old bytes after one more publication: in a wide store those of the newest 16
+-- publications at most, and of `most_old_bytes` bytes at most, the oldest going first; in an
+-- ordinary store, which keeps none, what there was
 unfoldable pub with_olds : Plan → List (List OldRecord) → List OldRecord → List (List OldRecord)
 with_olds p lists newest = if is_wide p.form then kept_within p.record_len (most_old_bytes p) (lists ++ newest ∷ []) else lists
 

@@ -23,12 +23,12 @@ pub fn changes_move_the_hint()
     ensures { ChangesSinceMoveTheHint }
 {}
 
-/// A snapshot whose records were moved into slots opens a store with the same history.
+/// A snapshot whose records were moved into slots opens a store, which has the same records.
 pub fn migrated_records_stay()
     ensures { MigratedRecordsStay }
 {}
 
-/// A wide snapshot made of an ordinary one opens a store with the same history.
+/// A wide snapshot made of an ordinary one opens a store, which has the same records.
 pub fn widened_records_stay()
     ensures { WidenedRecordsStay }
 {}

@@ -173,7 +173,8 @@ impl From<AllocError> for PublishError {
     }
 }
 
-/// The current version of the records, its hints, the draft of the next, and a log of changed rows.
+/// The current version of the records, its hints, the draft of the next, and a log of changed rows;
+/// for a wide store also the old bytes of the records that the newest publications changed.
 ///
 /// The draft is kept as its changes alone, with the count of its records: those appended are
 /// changes of blanks after the records of the version. Contracts see a store as what it holds,
@@ -212,6 +213,8 @@ impl<K: Kernel> Model for Store<K> {
 
 impl<K: Kernel> Store<K> {
     /// The store of a snapshot's records, with an empty draft. The store keeps the allocator.
+    ///
+    /// # Errors
     ///
     /// `BadLayout` exactly when there is no such form, or it is 2 or 130 for records of one byte,
     /// the layout is refused or the dimension is not in 1 to 1024; else `BadVersion` exactly when
@@ -524,7 +527,8 @@ impl<K: Kernel> Store<K> {
         self.edition.answer_buffers(self.alloc, scheme)
     }
 
-    /// Whether an answer of a scheme is so long that it is made in more than one step.
+    /// Whether an answer of a scheme is so long that it is made in more than one step. No clause
+    /// says so.
     pub fn has_steps(&self, scheme: Scheme) -> bool {
         self.edition.has_steps(scheme)
     }
@@ -575,6 +579,8 @@ impl<K: Kernel> Store<K> {
 
     /// Replaces record i of the draft, which no reader sees before its publication.
     ///
+    /// # Errors
+    ///
     /// `BadIndex` exactly when the draft has no record i; else `BadLength` exactly when the bytes
     /// can't be a record; else it is accepted, or `Memory`. A refused edit changes nothing.
     pub fn edit(&mut self, i: usize, bytes: &[u8]) -> Result<(), EditError>
@@ -607,6 +613,8 @@ impl<K: Kernel> Store<K> {
     }
 
     /// Puts a record after those of the draft. Until its publication it can be edited like others.
+    ///
+    /// # Errors
     ///
     /// `BadLength` exactly when the bytes can't be a record; else `Full` exactly when no layout has
     /// one record more than the draft; else accepted, or `Memory`. A refused append changes
@@ -684,6 +692,8 @@ impl<K: Kernel> Store<K> {
 
     /// Makes the draft the current version, and returns its number.
     ///
+    /// # Errors
+    ///
     /// `NothingToPublish` exactly when no edit and no append was accepted since the last
     /// publication; else `VersionsUsedUp` exactly when the current version is 2^64 - 1; else it is
     /// done, or `Memory`. A refused publication changes nothing: all memory is asked for first.
@@ -735,6 +745,8 @@ impl<K: Kernel> Store<K> {
 
 /// Writes the snapshot of the current version. Records of a wide store are read out of their
 /// digits, as many at a time as 64 KiB have; no other memory is taken but the header's.
+///
+/// # Errors
 ///
 /// After `Write` a part of it went out, and not the whole; `Memory` comes before the first byte.
 pub fn write_snapshot<K: Kernel, W: Write>(
