@@ -24,9 +24,9 @@
  *
  * Bytes. Sizes are in bytes; keys, seeds and digests have 32. What is copied out has exactly the length that the call
  * before it gave, else it is VUL_BAD_LENGTH and nothing is taken. A record has at most 256 bytes, a frame 16 MiB and 5,
- * a hint's file 129 MiB, a snapshot 21 MiB.
+ * a hint's file 129 MiB, a snapshot 21 MiB, or 1.2 GB if the store is wide.
  *
- * Time. No call waits for anything or takes a lock, but some compute for long. With the largest store, 262,144 records of 80
+ * Time. No call waits for anything or takes a lock, but some compute for long. With the largest ordinary store, 262,144 records of 80
  * bytes, at most about this on a core of 2.5 GHz (docs/MEASUREMENTS.md): `vul_server_open` 8 s; `vul_server_snapshot` 0.4 s;
  * `vul_server_publish`, or a frame that publishes, 1 ms for each row of digits that changed; a frame that asks, 4 ms by
  * SimplePIR and 0.3 s by DoublePIR; `vul_client_ask` 30 ms and 0.12 s, `vul_client_feed` of an answer 0.1 ms and 70 ms;
