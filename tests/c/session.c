@@ -115,6 +115,23 @@ static void is_closed(void)
     same("a closed server's handle is all zero", server.full, 0);
 }
 
+/* A greeting's bytes are to be taken before the next call. */
+static void greets(void)
+{
+    vul_client client = VUL_CLIENT_INIT;
+    uint8_t seed[32], key[32] = {0}, bytes[39];
+    memset(seed, 17, sizeof seed);
+    SAME(vul_client_open(&client, seed, 0), VUL_OK);
+    SAME(vul_client_hello(&client, key), VUL_OK);
+    SAME(vul_client_hello(&client, key), VUL_UNTAKEN);
+    SAME(vul_client_waiting(&client), sizeof bytes);
+    SAME(vul_client_take(&client, bytes, sizeof bytes), VUL_OK);
+    same("a Hello's length", bytes[0], 34);
+    same("a Hello's kind", bytes[4], 2);
+    vul_client_close(&client);
+    SAME(vul_client_hello(&client, key), VUL_CLOSED);
+}
+
 /* What a null pointer with a length is answered, and that one without is an empty slice. */
 static void is_null(vul_server *server, vul_client *client)
 {
@@ -505,6 +522,7 @@ int main(int count, char **words)
     uint8_t *file = read_file(words[1], &size);
 
     is_closed();
+    greets();
     vul_server server = {0}, again = {0};
     vul_client client = VUL_CLIENT_INIT;
     uint32_t open = 9;

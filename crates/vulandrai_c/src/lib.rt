@@ -9,7 +9,7 @@
 //! The exports whose names end in `_bytes` take slices, which are never null. c/slices.c calls them
 //! once it has checked that.
 //!
-//! Its tests are in tests/long/vulandrai_c, tests/c and tests/python.
+//! Its tests are in tests/c and tests/python.
 #![tactic(auto)]
 
 mod box_pointer;

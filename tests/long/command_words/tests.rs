@@ -1,8 +1,7 @@
 //! Words that are taken and refused, and the lines of failures.
 //! Proved by `tests/long/run --prove`.
 
-use crate::secrets::{file_in, line_of};
-use crate::{Failure, Secret, bytes32_from_hex, decimal, publisher_key, record_bytes};
+use command_words::{Failure, Secret, SecretFiles, bytes32_from_hex, decimal, publisher_key, record_bytes};
 use std::alloc::Global;
 use std::process::Abort;
 use std::test::Fail;
@@ -118,24 +117,42 @@ fn each_failure_has_its_line_and_status(rt: HostRuntime) -> Result<(), Fail> {
     Ok(())
 }
 
-#[test]
-fn secrets_may_stand_in_files(rt: HostRuntime) {
-    assert_eq!(rt; file_in("@a"), Some("a"));
-    assert_eq!(rt; file_in("@"), Some(""));
-    assert_eq!(rt; file_in("@a=@b"), Some("a=@b"));
-    for value in ["", "01", "a@b", "--key=@a"] {
-        assert_eq!(rt; file_in(value), None, "{value}");
+// Each file has these bytes.
+#[derive(Drop)]
+struct OneFile<'a>(&'a [u8]);
+
+impl SecretFiles for OneFile<'_> {
+    ghost begins = { λ _ _ _ _. Unit {0} };
+
+    ghost fails = { λ _ _. Unit {0} };
+
+    fn read_start(&self, _name: &str, out: &mut [u8]) -> Option<usize> {
+        let count = self.0.len().min(out.len());
+        out[..count].copy_from_slice(&self.0[..count]);
+        Some(count)
     }
 }
 
+// The digits of 32 bytes 01, and this after them.
+fn ones_and(alloc: Global, end: &str) -> Result<Vec<u8>, Fail> {
+    let mut bytes = Vec::new(alloc);
+    bytes.extend_from_slice(ONES.as_bytes())?;
+    bytes.extend_from_slice(end.as_bytes())?;
+    Ok(bytes)
+}
+
 #[test]
-fn the_end_of_a_secrets_line_is_dropped(rt: HostRuntime) {
-    for text in ["0a", "0a\n", "0a\r\n", "0a\r"] {
-        assert_eq!(rt; line_of(text), "0a");
+fn the_end_of_a_secrets_line_is_dropped(rt: HostRuntime) -> Result<(), Fail> {
+    for end in ["", "\n", "\r\n", "\r"] {
+        let bytes = ones_and(rt.alloc(), end)?;
+        assert_eq!(rt; Secret::File("a").seed(&OneFile(&bytes), "SEED"), Ok([1; 32]));
     }
-    assert_eq!(rt; line_of("0a\n\n"), "0a\n");
-    assert_eq!(rt; line_of("\n0a"), "\n0a");
-    assert_eq!(rt; line_of(""), "");
+    for end in ["\n\n", " ", "\n0", "\n\r"] {
+        let bytes = ones_and(rt.alloc(), end)?;
+        let bad = Err(Failure::Value("SEED"));
+        assert_eq!(rt; Secret::File("a").seed(&OneFile(&bytes), "SEED"), bad);
+    }
+    Ok(())
 }
 
 #[test]

@@ -1,14 +1,13 @@
 //! The file of a small hint, written, read and changed.
 //! Proved by `tests/long/run --prove`.
 
-use crate::heads::MOST_HEAD;
-use crate::sealing::digest_of;
-use crate::{
-    HintError, KeptHint, file_name, head_in, hint_file, hint_file_len, is_no_newer, parts_for,
-    parts_in, place_of, read_hint, read_old_hint, serves, state_lines,
-};
 use client_core::{Hint, Plan, Scheme, ServerInfo};
+use hint_file::{
+    HintError, KeptHint, MOST_HEAD, file_name, head_in, hint_file, hint_file_len, is_no_newer,
+    parts_for, parts_in, place_of, read_hint, read_old_hint, serves, state_lines,
+};
 use matrix_u32::Matrix;
+use sha2::{Digest, Sha256};
 use std::alloc::Global;
 use std::test::Fail;
 
@@ -62,8 +61,9 @@ fn old_bytes(alloc: Global, new: &[u8]) -> Result<Vec<u8>, Fail> {
     bytes.extend_from_slice(&[5u8; 32])?;
     let (body, rest) = cut(new, BODY_LEN);
     bytes.extend_from_slice(cut(body, 8).1)?;
-    let digest = digest_of(&bytes);
-    bytes.extend_from_slice(&digest)?;
+    let mut hasher = Sha256::new();
+    hasher.update(&bytes);
+    bytes.extend_from_slice(&hasher.finalize())?;
     bytes.extend_from_slice(cut(rest, 32).1)?;
     Ok(bytes)
 }

@@ -1,8 +1,8 @@
 //! What a disk has after a crash.
 //! Proved by `tests/long/run --prove`.
 
-use crate::{SimulatedDisk, SimulatedFiles};
 use safe_files::{BytesInMemory, replace_file};
+use simulated_host::{SimulatedDisk, SimulatedFiles};
 use std::alloc::Global;
 use std::cell::RefCell;
 use std::fs::{File, OpenFile};

@@ -3,8 +3,8 @@
 //! Proved by `tests/long/run --prove`.
 
 use super::{SEEDS, crash, one_machine, write_synced};
-use crate::SimulatedFiles;
 use safe_files::FileSystem;
+use simulated_host::SimulatedFiles;
 use std::fs;
 use std::fs::{File, OpenFile, OpenOptions};
 use std::io;

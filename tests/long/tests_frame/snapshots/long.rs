@@ -1,4 +1,5 @@
 //! A snapshot of a million records: written whole, and read back to its end.
+//! Run by `tests/long/run --slow`.
 
 use super::*;
 

@@ -1,4 +1,5 @@
 //! Sessions of large queries, hints and replies, with ample memory.
+//! Run by `tests/long/run --slow`.
 
 ghost use Rattle.std.specs.Prelude.{◌≤◌};
 
