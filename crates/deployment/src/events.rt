@@ -9,7 +9,7 @@ use std::collections::VecDeque;
 const KEPT: usize = 40;
 
 /// What happened.
-#[derive(Clone, Copy, Debug)]
+#[derive(Clone, Copy, Debug, PartialEq, Eq)]
 pub enum What {
     /// A step of a server.
     Server(usize, Turned),
@@ -56,7 +56,7 @@ pub enum What {
 }
 
 /// What happened, and at which step.
-#[derive(Clone, Copy, Debug)]
+#[derive(Clone, Copy, Debug, PartialEq, Eq)]
 pub struct Event {
     /// The number of the step.
     pub step: u64,

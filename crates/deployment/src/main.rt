@@ -4,7 +4,7 @@
 //!
 //! Exit statuses: 0 nothing was found, 1 something was, 2 a bad command line, 4 out of memory.
 //!
-//! Its own tests are in tests/deployment, with wrong bodies that it is to find.
+//! Its tests are in tests/long/deployment, wrong bodies that it is to find in tests/deployment.
 #![tactic(auto)]
 
 mod command_line;

@@ -55,8 +55,12 @@ pub fn simulate(rt: &HostRuntime) -> u8 {
     }
 }
 
-// Runs one seed after the other, until something is broken. Returns whether nothing was.
-fn run_all(rt: &HostRuntime, plan: &Plan) -> io::Result<bool> {
+/// Runs one seed after the other, until something is broken. Returns whether nothing was.
+///
+/// # Errors
+///
+/// When memory was refused, or what was to be printed could not be written.
+pub fn run_all(rt: &HostRuntime, plan: &Plan) -> io::Result<bool> {
     for number in 0..plan.runs {
         let run = Run {
             seed: plan.seed.wrapping_add(number),

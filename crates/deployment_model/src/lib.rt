@@ -5,7 +5,7 @@
 //! The program `deployment` puts these together, with servers (`simulated_server`) over the disks
 //! and the network of `simulated_host`.
 //!
-//! Its tests are in tests/deployment, with wrong bodies that it is to find.
+//! Its tests are in tests/long/deployment, wrong bodies that they are to find in tests/deployment.
 #![tactic(auto)]
 
 mod broken;

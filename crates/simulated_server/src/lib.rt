@@ -6,7 +6,7 @@
 //! is a place, has turns, and is closed if it makes no progress, or if more bytes than are allowed
 //! are held for all connections and most of them for this one.
 //!
-//! Its tests are in tests/deployment.
+//! Its tests are in tests/long/deployment.
 #![tactic(auto)]
 
 mod outside;

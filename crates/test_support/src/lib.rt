@@ -1,7 +1,7 @@
 //! What tests of several crates have in common: readers and writers over memory, and the store of
 //! two records.
 //!
-//! The tests of `tests_frame`, `tests_store`, `tests_session` and `tests_world` use it.
+//! The groups `tests_frame`, `tests_store`, `tests_session` and `tests_world` of tests/long use it.
 #![tactic(auto)]
 
 mod stores;

@@ -1,0 +1,4 @@
+//! Tests of frames.
+
+mod refused_memory;
+mod room;

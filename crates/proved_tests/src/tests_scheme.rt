@@ -1,0 +1,3 @@
+//! Tests of words of a seed and of noise.
+
+mod sources;

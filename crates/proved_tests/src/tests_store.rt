@@ -1,0 +1,3 @@
+//! Tests of snapshots and stores.
+
+mod refused_memory;

@@ -1,0 +1,3 @@
+//! Tests of the words of command lines.
+
+mod words;
