@@ -14,6 +14,7 @@ pub mod laws;
 mod old_bytes;
 mod opening;
 mod preparing;
+mod publication_room;
 mod row_marks;
 mod rows;
 mod store;

@@ -1,10 +1,11 @@
 //! The store: the current version, a draft, and their publication.
 
-ghost use Rattle.std.specs.Prelude.{All, ℕ, List, ◌≡◌, ◌≢◌, ◌+◌, ◌*◌, ◌^◌, ◌<◌, ◌≤◌, ◌↔◌, length};
+ghost use Rattle.std.specs.Prelude.{All, ℕ, List, [], ◌≡◌, ◌≢◌, ◌+◌, ◌*◌, ◌/◌, ◌^◌, ◌<◌, ◌≤◌, ◌↔◌};
+ghost use Rattle.std.specs.Prelude.{length};
 ghost use Rattle.std.specs.Prelude.{true, false, OnOk, OnErr, IfErr, IfOk, IfSome, IfNone, IsNone};
 ghost use Rattle.std.specs.Prelude.{IsSome, option_map, take, slice_set, IsErrOf, IsTrue};
 ghost use Rattle.matrix_u32.specs.Matrix.{row};
-ghost use Rattle.digit_pack.specs.Layout.{is_wide, digits_per_record, digit_rows, is_layout};
+ghost use Rattle.digit_pack.specs.Layout.{is_wide, digit_rows, is_layout};
 ghost use Rattle.digit_pack.specs.Layout.{record_at, records_in};
 ghost use Rattle.digit_pack.specs.Packed.{packed};
 ghost use Rattle.pir_schemes.specs.Plans.{IsPlan, fits, records_held, shape_at, slots, digits_at};
@@ -24,29 +25,27 @@ ghost use Rattle.std.specs.Io.KnownBytes.{Appends, Consumes, IsAtEnd};
 ghost use Rattle.snapshot_file.specs.declared.snapshot.Header.{Header};
 ghost use Rattle.snapshot_file.specs.Verdicts.{MayRefuse, StopsReadingAt};
 ghost use Rattle.version_store.specs.Histories.{StoreState, History, StandsFor, opened, after_edit};
-ghost use Rattle.version_store.specs.Histories.{after_append, published, undrafted, held_edited};
-ghost use Rattle.version_store.specs.Histories.{held_appended, held_published, without_draft};
+ghost use Rattle.version_store.specs.Histories.{after_append, undrafted, held_edited};
+ghost use Rattle.version_store.specs.Histories.{held_appended, without_draft};
 ghost use Rattle.version_store.specs.Histories.{delta_rows, kept_log, changes_since, reaches_olds};
-ghost use Rattle.version_store.specs.OldRecords.{draft_olds};
 ghost use Rattle.version_store.specs.DraftChanges.{IsNextChange, HasNoChange};
 ghost use Rattle.version_store.specs.Names.{append_fault_name, edit_fault_name, publish_fault_name};
 
 mod answers;
+mod publishing;
 
 use crate::answer_buffers::AnswerBuffers;
 use crate::drafts::{Changes, first_change};
 use crate::edition::Edition;
 use crate::held_records::HeldRecords;
-use crate::old_bytes::{keep_olds, old_bytes, olds_log};
+use crate::old_bytes::olds_log;
 use crate::opening::{OpenError, plan_of, sizes_of};
-use crate::row_marks::{marks_for, push_marked};
-use crate::rows::FollowBuffers;
 use crate::unopened::Opening;
 use digit_pack::{Layout, is_wide};
 use hint_update::DeltaLog;
 use matrix_u32::Kernel;
 use pir_schemes::{Plan, Scheme, part_words};
-use record_log::{OldRecords, RecordLog};
+use record_log::RecordLog;
 use simple_scheme::{HintWatcher, Unwatched};
 use snapshot_file::{
     Header, Snapshot, SnapshotFault, WriteFault, write_snapshot_bytes, write_snapshot_from,
@@ -255,10 +254,32 @@ impl<K: Kernel> Store<K> {
         let plan = plan_of(header);
         // The sizes are within the limits: this can't fail.
         let layout = header.layout().unwrap();
-        let count = layout.count();
         let edition = Edition::open(alloc, kernel, plan, layout, held, watcher)?;
-        let log = DeltaLog::new(alloc, header.version)?;
-        let olds = olds_log(alloc, edition.layout(), plan.dimension)?;
+        Store::of(alloc, edition, header.version, header.publisher)
+    }
+
+    // The store of an edition, with an empty draft, that has published nothing yet. Only refused
+    // memory gives an `Err`.
+    fn of(
+        alloc: Global,
+        edition: Edition<K>,
+        version: u64,
+        publisher: [u8; 32],
+    ) -> Result<Store<K>, AllocError>
+        ensures { IfOk result (λ s. s ≡ record {
+          version = version;
+          edition = edition;
+          draft = edition.records;
+          marked = false;
+          publisher = publisher;
+          log = [];
+          olds = [];
+        }) }
+    {
+        let dimension = edition.plan().dimension;
+        let layout = edition.layout();
+        let count = layout.count();
+        let (log, olds) = empty_logs(alloc, layout, dimension, version)?;
         Ok(Store {
             alloc,
             edition,
@@ -266,7 +287,7 @@ impl<K: Kernel> Store<K> {
             changes: Changes::new(alloc),
             log,
             olds,
-            publisher: header.publisher,
+            publisher,
         })
     }
 
@@ -689,58 +710,6 @@ impl<K: Kernel> Store<K> {
         self.changes = Changes::new(self.alloc);
         self.count = self.edition.layout().count();
     }
-
-    /// Makes the draft the current version, and returns its number.
-    ///
-    /// # Errors
-    ///
-    /// `NothingToPublish` exactly when no edit and no append was accepted since the last
-    /// publication; else `VersionsUsedUp` exactly when the current version is 2^64 - 1; else it is
-    /// done, or `Memory`. A refused publication changes nothing: all memory is asked for first.
-    pub fn publish(&mut self) -> Result<u64, PublishError>
-        ensures version { IfOk result (λ v. (v ≡ self.old.version + 1) × (v < 2 ^ 64)) }
-        ensures done { OnOk result (self.new ≡ held_published self.old) }
-        ensures history { OnOk result ((h : History) →
-            StandsFor self.old h → StandsFor self.new (published h)) }
-        ensures nothing { IsErrOf result PublishError.NothingToPublish ↔ (self.old.marked ≡ false) }
-        ensures used_up { IsErrOf result PublishError.VersionsUsedUp ↔
-            (self.old.marked ≡ true) × (self.old.version + 1 ≡ 2 ^ 64) }
-        ensures refused { OnErr result (self.new ≡ self.old) }
-    {
-        if !self.is_marked() {
-            return Err(PublishError::NothingToPublish);
-        }
-        if self.version() == u64::MAX {
-            return Err(PublishError::VersionsUsedUp);
-        }
-        let olds = self.draft_olds()?;
-        let changes = self.changes.len();
-        let layout = self.edition.layout();
-        let mut scratch = scratch_for(self.alloc, layout)?;
-        let mut marks = marks_for(self.alloc, layout)?;
-        let mut rows = Vec::with_capacity(self.alloc, layout.rows())?;
-        let most = layout.digits_per_record().saturating_mul(changes);
-        let changed = layout.rows().min(most);
-        let mut room = FollowBuffers::new(self.alloc, changed, self.dimension(), layout.width())?;
-        self.edition.grow(self.alloc, self.count)?;
-        self.edition
-            .apply(&mut self.changes, &mut scratch, &mut marks, &mut room);
-        push_marked(&marks, &mut rows);
-        self.log.add(rows);
-        keep_olds(&mut self.olds, olds);
-        Ok(self.version())
-    }
-
-    // The old bytes of the records that the draft changes. Only a wide store asks for them.
-    fn draft_olds(&self) -> Result<Option<OldRecords>, AllocError>
-        ensures { IfOk result (λ olds. olds ≡ draft_olds self.now.edition self.now.draft) }
-    {
-        if !is_wide(self.edition.plan().form) {
-            return Ok(None);
-        }
-        let olds = old_bytes(self.alloc, self.edition.layer(), &self.changes, self.count)?;
-        Ok(Some(olds))
-    }
 }
 
 /// Writes the snapshot of the current version. Records of a wide store are read out of their
@@ -770,11 +739,24 @@ pub fn write_snapshot<K: Kernel, W: Write>(
     write_snapshot_from(alloc, &header, layer, writer)
 }
 
-// Room for the digits of a record.
-fn scratch_for(alloc: Global, layout: &Layout) -> Result<Vec<u32>, AllocError>
-    ensures { IfOk result (λ v. length v.items ≡ digits_per_record layout.now) }
+// The logs of a store that has published nothing yet: of the rows that changed, and of old bytes.
+fn empty_logs(
+    alloc: Global,
+    layout: &Layout,
+    dimension: u16,
+    version: u64,
+) -> Result<(DeltaLog, RecordLog), AllocError>
+    requires { dimension ≤ 1024 }
+    ensures rows { IfOk result (λ logs. logs.0 ≡ record { version = version; lists = [] }) }
+    ensures olds { IfOk result (λ logs. logs.1 ≡ record {
+      record_len = layout.now.record_len;
+      most = digit_rows layout.now * dimension / 2;
+      lists = [];
+    }) }
 {
-    vec![in alloc; 0; layout.digits_per_record()]
+    let log = DeltaLog::new(alloc, version)?;
+    let olds = olds_log(alloc, layout, dimension)?;
+    Ok((log, olds))
 }
 
 fn copy_of(alloc: Global, bytes: &[u8]) -> Result<Vec<u8>, AllocError>
