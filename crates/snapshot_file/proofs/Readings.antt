@@ -7,7 +7,7 @@ use Rattle.snapshot_file.specs.declared.snapshot.Header.{Header}
 use Rattle.snapshot_file.specs.declared.snapshot.SnapshotFault.{SnapshotFault}
 use Rattle.snapshot_file.specs.declared.snapshot.SnapshotFault.TheVariants as faults
 use Rattle.snapshot_file.specs.Snapshots.{magic, form_bytes, fields_len, IsForm, IsWideForm, IsMagic, header_bytes, hashed_bytes, snapshot_bytes, records_len, IsHeader, IsAccepted, IsFile}
-use Rattle.snapshot_file.specs.Verdicts.{IsUnfinished, HasBadHeader, HasBadDigest, HasBadSlot, EndsBelow, EndsKept, EndsAfter, StopsReadingAt, MayRefuse}
+use Rattle.snapshot_file.specs.Verdicts.{IsUnfinished, HasBadHeader, HasBadDigest, HasBadSlot, EndsBelow, EndsKept, EndsAtDigest, StopsReadingAt, MayRefuse}
 
 -- the input ended, or failed, in the fields
 pub stops_in_fields : (fault : SnapshotFault) (form : ℕ) (part : List ℕ) (left : Option (List ℕ)) → IsForm form → EndsBelow (fields_len form) fault part left →
@@ -83,43 +83,32 @@ stops_in_records faults.BadSlot h part left header accepted d = absurd d
 in_digest : (h : Header) (records part : List ℕ) → IsFile h records → length part < 32 → IsUnfinished (header_bytes h ++ (records ++ part))
 in_digest h records part is lt = inr (inr (h, records ++ part, (is.header, is.accepted, refl), omega (arith, length-append records part, is.len)))
 
-pub stops_in_digest : (fault : SnapshotFault) (h : Header) (records part : List ℕ) (left : Option (List ℕ)) → IsFile h records →
-    EndsBelow 32 fault part left
-    → StopsReadingAt fault (header_bytes h ++ (records ++ part)) left
-stops_in_digest faults.Short h records part left is d = (in_digest h records part is d.0, d.1)
-stops_in_digest faults.Read h records part left is d = inl (in_digest h records part is d)
-stops_in_digest faults.NotSnapshot h records part left is d = absurd d
-stops_in_digest faults.BadLayout h records part left is d = absurd d
-stops_in_digest faults.BadDigest h records part left is d = absurd d
-stops_in_digest faults.TrailingBytes h records part left is d = absurd d
-stops_in_digest faults.Memory h records part left is d = absurd d
-stops_in_digest faults.BadSlot h records part left is d = absurd d
-
-pub stops_at_digest : (h : Header) (records digest : List ℕ) → IsFile h records → length digest ≡ 32 → ¬ (digest ≡ sha256 (hashed_bytes h records))
+at_digest : (h : Header) (records digest : List ℕ) → IsFile h records → length digest ≡ 32 → ¬ (digest ≡ sha256 (hashed_bytes h records))
     → HasBadDigest (header_bytes h ++ (records ++ digest)) []
-stops_at_digest h records digest is len wrong =
+at_digest h records digest is len wrong =
     (h, records, digest, is, len, wrong, sym (append_assoc (header_bytes h) records digest) ∙ sym (append-nil (hashed_bytes h records ++ digest)))
 
 -- the bytes of a snapshot, as they were read
-pub joined : (h : Header) (records digest part : List ℕ) → digest ≡ sha256 (hashed_bytes h records)
-    → header_bytes h ++ ((records ++ digest) ++ part) ≡ snapshot_bytes h records ++ part
-joined h records digest part e =
-    sym (append_assoc (header_bytes h) (records ++ digest) part)
-    ∙ ap (λ (x : List ℕ). x ++ part) (sym (append_assoc (header_bytes h) records digest) ∙ ap (λ (x : List ℕ). hashed_bytes h records ++ x) e)
+joined : (h : Header) (records digest part end : List ℕ) → digest ≡ sha256 (hashed_bytes h records) → part ≡ digest ++ end
+    → header_bytes h ++ (records ++ part) ≡ snapshot_bytes h records ++ end
+joined h records digest part end e p =
+    sym (append_assoc (header_bytes h) records part)
+    ∙ ap (λ (x : List ℕ). hashed_bytes h records ++ x) (p ∙ ap (λ (x : List ℕ). x ++ end) e)
+    ∙ sym (append_assoc (hashed_bytes h records) (sha256 (hashed_bytes h records)) end)
 
-pub stops_after : (fault : SnapshotFault) (h : Header) (records digest part : List ℕ) (left : Option (List ℕ)) → IsFile h records →
+-- the digest that was wanted is the snapshot's
+pub stops_at_digest : (fault : SnapshotFault) (h : Header) (records digest part : List ℕ) (left : Option (List ℕ)) → IsFile h records →
     digest ≡ sha256 (hashed_bytes h records)
-    → EndsAfter fault part → StopsReadingAt fault (header_bytes h ++ ((records ++ digest) ++ part)) left
-stops_after faults.TrailingBytes h records digest part left is e d =
-    (d.0, (h, records, is, joined h records digest part e ∙ ap (λ (x : List ℕ). snapshot_bytes h records ++ x) d.1))
-stops_after faults.Read h records digest part left is e d =
-    inr (h, records, is, joined h records digest part e ∙ ap (λ (x : List ℕ). snapshot_bytes h records ++ x) d)
-stops_after faults.Short h records digest part left is e d = absurd d
-stops_after faults.NotSnapshot h records digest part left is e d = absurd d
-stops_after faults.BadLayout h records digest part left is e d = absurd d
-stops_after faults.BadDigest h records digest part left is e d = absurd d
-stops_after faults.Memory h records digest part left is e d = absurd d
-stops_after faults.BadSlot h records digest part left is e d = absurd d
+    → EndsAtDigest digest fault part left → StopsReadingAt fault (header_bytes h ++ (records ++ part)) left
+stops_at_digest faults.Short h records digest part left is e d = (in_digest h records part is d.0, d.1)
+stops_at_digest faults.Read h records digest part left is e (inl d) = inl (in_digest h records part is d)
+stops_at_digest faults.Read h records digest part left is e (inr d) = inr (h, records, is, joined h records digest part [] e (d ∙ sym (append-nil digest)))
+stops_at_digest faults.BadDigest h records digest part left is e d = at_digest h records part is d.0 (λ same. d.1 (same ∙ sym e))
+stops_at_digest faults.TrailingBytes h records digest part left is e d = (d.0, (h, records, is, joined h records digest part (d.0 ∷ []) e d.1))
+stops_at_digest faults.NotSnapshot h records digest part left is e d = absurd d
+stops_at_digest faults.BadLayout h records digest part left is e d = absurd d
+stops_at_digest faults.Memory h records digest part left is e d = absurd d
+stops_at_digest faults.BadSlot h records digest part left is e d = absurd d
 
 -- what is after the bytes at which reading stopped
 more : (read prefix rest ys : List ℕ) → read ≡ prefix ++ rest → read ++ ys ≡ prefix ++ (rest ++ ys)

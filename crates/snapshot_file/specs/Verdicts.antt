@@ -103,3 +103,12 @@ abbrev pub EndsAfter : SnapshotFault → List ℕ → Type 0
 EndsAfter faults.TrailingBytes part = (b : ℕ) × (part ≡ b ∷ [])
 EndsAfter faults.Read part = part ≡ []
 EndsAfter _ part = ⊥
+
+-- what came where this digest and then the end should be: less, another digest, a byte after it, or
+-- a read failed
+abbrev pub EndsAtDigest : List ℕ → SnapshotFault → List ℕ → Option (List ℕ) → Type 0
+EndsAtDigest digest faults.Short part left = (length part < 32) × IsAtEnd left
+EndsAtDigest digest faults.Read part left = (length part < 32) ⊎ (part ≡ digest)
+EndsAtDigest digest faults.BadDigest part left = (length part ≡ 32) × ¬ (part ≡ digest)
+EndsAtDigest digest faults.TrailingBytes part left = (b : ℕ) × (part ≡ digest ++ b ∷ [])
+EndsAtDigest digest _ part left = ⊥

@@ -5,7 +5,8 @@ ghost use Rattle.std.specs.Io.KnownBytes.{Appends, Consumes, IsAtEnd};
 ghost use Rattle.sha2.specs.Sha256.{sha256};
 ghost use Rattle.sha2.specs.Hashers.{Holds256};
 ghost use Rattle.snapshot_file.specs.Copies.{StopsCopyingAt};
-ghost use Rattle.snapshot_file.specs.Snapshots.{records_len, hashed_bytes, snapshot_bytes};
+ghost use Rattle.snapshot_file.specs.Snapshots.{header_bytes, hashed_bytes, records_len};
+ghost use Rattle.snapshot_file.specs.Snapshots.{snapshot_bytes};
 
 use crate::header::{DIGEST_LEN, header_bytes};
 use crate::reading::{fill, read_end};
@@ -74,14 +75,39 @@ pub fn write_snapshot_read<R: Read, W: Write>(
 {
     let prefix = header_bytes(alloc, header)?;
     let mut buffer = piece_buffer(alloc)?;
-    let mut hasher = Sha256::new();
-    hasher.update(&prefix);
-    let len = header.records_len();
-    match write_out(writer, &prefix) {
+    copy_all_bytes(header, &prefix, reader, writer, &mut buffer)
+}
+
+// Writes the snapshot of a header, whose bytes are the prefix, and of all bytes of a reader. Prefix
+// and buffer stay the caller's: to free them at each failure here would make the proof long.
+fn copy_all_bytes<R: Read, W: Write>(
+    header: &Header,
+    prefix: &[u8],
+    reader: &mut R,
+    writer: &mut W,
+    buffer: &mut [u8],
+) -> Result<[u8; DIGEST_LEN], CopyFault>
+    requires prefix { prefix.now ≡ header_bytes header.now }
+    requires room { 1 ≤ length buffer.old }
+    ensures whole { IfOk result (λ digest. (records : List ℕ) ×
+        (length records ≡ records_len header.now)
+        × Consumes (R.remaining reader.old) (R.remaining reader.new) records
+        × IsAtEnd (R.remaining reader.new)
+        × Appends (W.contents writer.old) (W.contents writer.new)
+        (snapshot_bytes header.now records)
+        × (digest ≡ sha256 (hashed_bytes header.now records))) }
+    ensures refused { IfErr result (λ fault. (part : List ℕ) ×
+        Consumes (R.remaining reader.old) (R.remaining reader.new) part
+        × StopsCopyingAt (records_len header.now) fault part (R.remaining reader.new)) }
+{
+    match write_out(writer, prefix) {
         Ok(()) => {}
         Err(_) => return Err(CopyFault::Write(0)),
     }
-    copy_records(reader, len, writer, &mut buffer, &mut hasher)?;
+    let mut hasher = Sha256::new();
+    hasher.update(prefix);
+    let len = header.records_len();
+    copy_records(reader, len, writer, buffer, &mut hasher)?;
     let digest = hasher.finalize();
     match write_out(writer, &digest) {
         Ok(()) => Ok(digest),

@@ -2,6 +2,7 @@
 
 ghost use Rattle.std.specs.Prelude.{◌≡◌, ◌⊎◌, ◌≤◌, ◌++◌, length, take, IfOk, IfSome, IfNone};
 ghost use Rattle.sha2.specs.Sha256.{sha256};
+ghost use Rattle.sha2.specs.Hashers.{Holds256};
 ghost use Rattle.snapshot_file.specs.Snapshots.{magic, form_bytes, hashed_bytes, header_bytes};
 ghost use Rattle.snapshot_file.specs.Snapshots.{IsForm, IsMagic, IsHeader};
 
@@ -73,6 +74,17 @@ pub fn header_bytes(alloc: Global, header: &Header) -> Result<Vec<u8>, AllocErro
     bytes.extend_from_slice(&header.seed)?;
     bytes.extend_from_slice(&header.publisher)?;
     Ok(bytes)
+}
+
+/// A hasher of the bytes of a header. They are freed at once, so that whoever reads on has none of
+/// their memory to free at each failure.
+pub fn hash_header(alloc: Global, header: &Header) -> Result<Sha256, AllocError>
+    ensures { IfOk result (λ hasher. Holds256 hasher (header_bytes header.now)) }
+{
+    let prefix = header_bytes(alloc, header)?;
+    let mut hasher = Sha256::new();
+    hasher.update(&prefix);
+    Ok(hasher)
 }
 
 // The first 32 bytes.

@@ -35,14 +35,15 @@ ghost use Rattle.snapshot_file.specs.Snapshots.{
   IsFile,
   IsSnapshot,
 };
-ghost use Rattle.snapshot_file.specs.Verdicts.{EndsBelow, EndsKept, EndsAfter, StopsReadingAt};
-ghost use Rattle.snapshot_file.specs.Verdicts.{MayRefuse};
+ghost use Rattle.snapshot_file.specs.Verdicts.{EndsBelow, EndsKept, EndsAfter, EndsAtDigest};
+ghost use Rattle.snapshot_file.specs.Verdicts.{StopsReadingAt, MayRefuse};
 
 use crate::header::{
-    DIGEST_LEN, FIELDS_LEN, MAGIC_LEN, WIDE_FIELDS_LEN, digest_of, form_of, header_bytes, header_in,
+    DIGEST_LEN, FIELDS_LEN, MAGIC_LEN, WIDE_FIELDS_LEN, form_of, hash_header, header_in,
 };
 use crate::snapshot::{Header, Snapshot, SnapshotFault};
 use connection_io::PIECE_LEN;
+use sha2::Digest;
 use std::alloc::{AllocError, Global};
 use std::io::Read;
 
@@ -241,6 +242,24 @@ pub(crate) fn read_end<R: Read>(reader: &mut R) -> Result<(), SnapshotFault>
     }
 }
 
+// The digest, which is to be this one, and the end of the input.
+pub(crate) fn read_digest<R: Read>(
+    reader: &mut R,
+    made: [u8; DIGEST_LEN],
+) -> Result<(), SnapshotFault>
+    ensures ok { OnOk result (Consumes (R.remaining reader.old) (R.remaining reader.new) made ×
+        IsAtEnd (R.remaining reader.new)) }
+    ensures err { IfErr result (λ fault. (part : List ℕ) ×
+        Consumes (R.remaining reader.old) (R.remaining reader.new) part
+        × EndsAtDigest made fault part (R.remaining reader.new)) }
+{
+    let digest = read_array::<DIGEST_LEN, R>(reader)?;
+    if digest != made {
+        return Err(SnapshotFault::BadDigest);
+    }
+    read_end(reader)
+}
+
 // The records and the digest after a header, and the end of the input.
 fn read_body<R: Read>(
     alloc: Global,
@@ -258,14 +277,12 @@ fn read_body<R: Read>(
         Consumes (R.remaining reader.old) (R.remaining reader.new) read
         × StopsReadingAt fault (header_bytes header.now ++ read) (R.remaining reader.new)) }
 {
-    // the bytes that were read: a header has no others
-    let prefix = header_bytes(alloc, header)?;
+    // of the bytes that were read: a header has no others
+    let mut hasher = hash_header(alloc, header)?;
     let records = read_records(alloc, reader, header.records_len())?;
-    let digest = read_array::<DIGEST_LEN, R>(reader)?;
-    if digest != digest_of(&prefix, &records) {
-        return Err(SnapshotFault::BadDigest);
-    }
-    read_end(reader)?;
+    hasher.update(&records);
+    let digest = hasher.finalize();
+    read_digest(reader, digest)?;
     Ok((records, digest))
 }
 

@@ -12,8 +12,8 @@ ghost use Rattle.snapshot_file.specs.Snapshots.{header_bytes, hashed_bytes, shap
 ghost use Rattle.snapshot_file.specs.Snapshots.{has_slots, IsHeader, IsAccepted, IsSnapshot};
 ghost use Rattle.snapshot_file.specs.Verdicts.{EndsBelow, StopsReadingAt};
 
-use crate::header::{DIGEST_LEN, header_bytes};
-use crate::reading::{fill, read_array, read_end};
+use crate::header::{DIGEST_LEN, hash_header};
+use crate::reading::{fill, read_digest};
 use crate::snapshot::{Header, SnapshotFault};
 use digit_pack::{is_slotted, read_slot};
 use sha2::{Digest, Sha256};
@@ -68,17 +68,11 @@ pub fn read_records_into<R: Read, S: RecordSink>(
         Consumes (R.remaining reader.old) (R.remaining reader.new) read
         × StopsReadingAt fault (header_bytes header.now ++ read) (R.remaining reader.new)) }
 {
-    // the bytes that were read: a header has no others
-    let prefix = header_bytes(alloc, header)?;
-    let mut hasher = Sha256::new();
-    hasher.update(&prefix);
+    // of the bytes that were read: a header has no others
+    let mut hasher = hash_header(alloc, header)?;
     let good = receive_records(reader, header, buffer, &mut hasher, sink)?;
-    let made = hasher.finalize();
-    let digest = read_array::<DIGEST_LEN, R>(reader)?;
-    if digest != made {
-        return Err(SnapshotFault::BadDigest);
-    }
-    read_end(reader)?;
+    let digest = hasher.finalize();
+    read_digest(reader, digest)?;
     if !good {
         return Err(SnapshotFault::BadSlot);
     }

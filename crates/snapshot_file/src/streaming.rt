@@ -4,7 +4,7 @@ ghost use Rattle.std.specs.Prelude.{◌≡◌, ◌≤◌, ◌<◌, ◌*◌, ◌+
 ghost use Rattle.std.specs.Prelude.{drop, OnOk, OnErr, IfErr, IfOk};
 ghost use Rattle.std.specs.Io.KnownBytes.{Appends};
 ghost use Rattle.sha2.specs.Hashers.{Holds256};
-ghost use Rattle.snapshot_file.specs.Snapshots.{records_len, snapshot_bytes};
+ghost use Rattle.snapshot_file.specs.Snapshots.{header_bytes, records_len, snapshot_bytes};
 
 use crate::header::header_bytes;
 use crate::snapshot::{Header, WriteFault};
@@ -51,21 +51,8 @@ pub fn write_snapshot_from<S: RecordSource, W: Write>(
         × (fault ≡ WriteFault.Memory → n ≡ 0)) }
 {
     let prefix = header_bytes(alloc, header)?;
-    let record_len = usize::from(header.record_len);
-    let mut buffer = record_buffer(alloc, record_len)?;
-    let mut hasher = Sha256::new();
-    hasher.update(&prefix);
-    write_out(writer, &prefix)?;
-    write_records(
-        source,
-        record_len,
-        header.count as usize,
-        writer,
-        &mut buffer,
-        &mut hasher,
-    )?;
-    let digest = hasher.finalize();
-    write_out(writer, &digest)?;
+    let mut buffer = record_buffer(alloc, usize::from(header.record_len))?;
+    write_all_bytes(header, &prefix, source, writer, &mut buffer)?;
     Ok(())
 }
 
@@ -76,6 +63,43 @@ fn record_buffer(alloc: Global, record_len: usize) -> Result<Vec<u8>, AllocError
     ensures { IfOk result (λ buffer. record_len ≤ length buffer.items) }
 {
     Vec::from_elem(alloc, 0u8, PIECE_LEN / record_len * record_len)
+}
+
+// Writes the snapshot of a header, whose bytes are the prefix, and of a source's records. Prefix
+// and buffer stay the caller's: to free them at each failure here would make the proof long.
+fn write_all_bytes<S: RecordSource, W: Write>(
+    header: &Header,
+    prefix: &[u8],
+    source: &S,
+    writer: &mut W,
+    buffer: &mut [u8],
+) -> Result<(), WriteFailed>
+    requires prefix { prefix.now ≡ header_bytes header.now }
+    requires some { 1 ≤ header.now.record_len }
+    requires record_len { S.record_len source.now ≡ header.now.record_len }
+    requires room { header.now.record_len ≤ length buffer.old }
+    requires len { length (S.bytes source.now) ≡ records_len header.now }
+    ensures whole { OnOk result (Appends (W.contents writer.old) (W.contents writer.new)
+        (snapshot_bytes header.now (S.bytes source.now))) }
+    ensures part { OnErr result ((n : ℕ) ×
+        (n < length (snapshot_bytes header.now (S.bytes source.now)))
+        × Appends (W.contents writer.old) (W.contents writer.new)
+        (take n (snapshot_bytes header.now (S.bytes source.now)))) }
+{
+    write_out(writer, prefix)?;
+    let mut hasher = Sha256::new();
+    hasher.update(prefix);
+    write_records(
+        source,
+        usize::from(header.record_len),
+        header.count as usize,
+        writer,
+        buffer,
+        &mut hasher,
+    )?;
+    let digest = hasher.finalize();
+    write_out(writer, &digest)?;
+    Ok(())
 }
 
 // Writes records of a source, so many from the first one on, and hashes them: as many at a time as
