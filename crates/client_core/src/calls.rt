@@ -1,19 +1,23 @@
 //! What a call asks of the client, and the bytes that it sends.
 
 ghost use Rattle.std.specs.Prelude.{◌≡◌, ◌≤◌, ◌<◌, ◌+◌, ◌^◌, None, Some, IfOk, IfErr, MatchResult};
-ghost use Rattle.std.specs.Prelude.{length};
+ghost use Rattle.std.specs.Prelude.{length, [], ◌*◌, vec_capacity};
+ghost use Rattle.digit_pack.specs.Layout.{is_wide};
 ghost use Rattle.frame_codec.specs.Frames.{IsFrame, payload_size, payload_limit, encoding};
 ghost use Rattle.pir_schemes.specs.Schemes.{scheme_byte};
 ghost use Rattle.pir_schemes.specs.Retrievals.{query_words};
+ghost use Rattle.client_core.specs.declared.state.ClientState.{ClientState};
 ghost use Rattle.client_core.specs.States.{IsKnown, shape_known, is_ready, is_idle, known_count};
-ghost use Rattle.client_core.specs.States.{scheme_held, delta_base};
+ghost use Rattle.client_core.specs.States.{scheme_held, delta_base, known_version};
 ghost use Rattle.client_core.specs.Buffers.{IsAskBuffers};
 ghost use Rattle.client_core.specs.Calls.{ClientCall, call_refusal, hello_refusal, change_refusal};
-ghost use Rattle.client_core.specs.Calls.{call_since};
-ghost use Rattle.client_core.specs.Calls.{frame_since};
+ghost use Rattle.client_core.specs.Calls.{call_since, sync_begun};
+ghost use Rattle.client_core.specs.Calls.{frame_since, sync_frame};
 
+use crate::parts::Parts;
 use crate::state::{Call, CallFault, ClientState, Hint, ServerInfo};
-use frame_codec::{Bytes, Frame, Words, write_frame};
+use digit_pack::is_wide;
+use frame_codec::{Bytes, Bytes32, Frame, Words, write_frame};
 use matrix_u32::Kernel;
 use pir_schemes::{QueryBuffers, QueryMasks, Scheme, SecretSeed, query_count};
 use std::alloc::Global;
@@ -141,9 +145,9 @@ pub(crate) fn base_of(scheme: Scheme, hint: &Option<Hint>) -> Option<u64>
     }
 }
 
-/// The call that asks for what changed since a version: for records in a wide store, for rows of
-/// the hint in an ordinary one.
-pub(crate) fn call_since(wide: bool, since: u64) -> Call
+// The call that asks for what changed since a version: for records in a wide store, for rows of
+// the hint in an ordinary one.
+fn call_since(wide: bool, since: u64) -> Call
     ensures { result ≡ call_since wide since }
 {
     if wide {
@@ -153,8 +157,8 @@ pub(crate) fn call_since(wide: bool, since: u64) -> Call
     }
 }
 
-/// The frame of that call.
-pub(crate) fn frame_since(wide: bool, since: u64) -> Frame
+// The frame of that call.
+fn frame_since(wide: bool, since: u64) -> Frame
     ensures frame { result ≡ frame_since wide since }
     ensures size { payload_size result ≤ payload_limit }
 {
@@ -176,6 +180,83 @@ pub(crate) fn encoded(alloc: Global, frame: &Frame) -> Result<Vec<u8>, CallFault
     match write_frame(frame, &mut bytes) {
         Ok(()) => Ok(bytes),
         Err(_) => Err(CallFault::Memory),
+    }
+}
+
+/// The bytes of a greeting.
+pub(crate) fn hello_bytes(alloc: Global, profile: u16, key: &[u8; 32]) -> Result<Vec<u8>, CallFault>
+    ensures bytes { IfOk result (λ v. v.items ≡ encoding (Frame.Hello profile key.now)) }
+    ensures frame { IfOk result (λ _. IsFrame (Frame.Hello profile key.now)) }
+    ensures memory { IfErr result (λ e. e ≡ CallFault.Memory) }
+{
+    let frame = Frame::Hello {
+        profile,
+        key: Bytes32::copied(key),
+    };
+    encoded(alloc, &frame)
+}
+
+// The first frame of a sync: by what changed since a version, or by the parts of this one.
+fn sync_frame(wide: bool, scheme: Scheme, since: Option<u64>, version: u64) -> Frame
+    ensures frame { (c : ClientState) → is_wide c.profile ≡ wide → known_version c.known ≡ version →
+        result ≡ sync_frame since scheme c }
+    ensures size { payload_size result ≤ payload_limit }
+{
+    match since {
+        Some(since) => frame_since(wide, since),
+        None => Frame::HintAsk {
+            scheme: scheme.byte(),
+            version,
+            part: 0,
+        },
+    }
+}
+
+/// The bytes that begin a sync, which changes nothing until there are such.
+pub(crate) fn sync_bytes(
+    alloc: Global,
+    state: &ClientState,
+    scheme: Scheme,
+    since: Option<u64>,
+    version: u64,
+) -> Result<Vec<u8>, CallFault>
+    requires { known_version state.now.known ≡ version }
+    ensures bytes { IfOk result (λ v. v.items ≡ encoding (sync_frame since scheme state.now)) }
+    ensures frame { IfOk result (λ _. IsFrame (sync_frame since scheme state.now)) }
+    ensures memory { IfErr result (λ e. e ≡ CallFault.Memory) }
+{
+    let frame = sync_frame(is_wide(state.profile), scheme, since, version);
+    encoded(alloc, &frame)
+}
+
+// Drops the hint held and the parts that came.
+fn drop_words(alloc: Global, state: &mut ClientState)
+    ensures { state.new ≡ record state.old { hint = None; parts = [] } }
+{
+    state.hint = None;
+    state.parts = Parts::none(alloc);
+}
+
+/// Begins a sync, which nothing can refuse any more.
+pub(crate) fn begin_sync(
+    alloc: Global,
+    state: &mut ClientState,
+    scheme: Scheme,
+    since: Option<u64>,
+    version: u64,
+)
+    requires { known_version state.old.known ≡ version }
+    ensures { state.new ≡ sync_begun since scheme state.old }
+{
+    if let Some(since) = since {
+        state.call = call_since(is_wide(state.profile), since);
+    } else {
+        drop_words(alloc, state);
+        state.call = Call::Sync {
+            scheme,
+            version,
+            part: 0,
+        };
     }
 }
 
@@ -275,12 +356,24 @@ pub(crate) fn query_bytes<K: Kernel>(
     let AskBuffers { words, mut bytes } = room;
     let seed = SecretSeed::new(*seed);
     let words = words.fill_masked(kernel, masks, &seed, asked.number, asked.index as usize);
+    write_query(&mut bytes, scheme, asked.version, words);
+    bytes
+}
+
+// Writes the frame of a query into memory that has room for it.
+fn write_query(bytes: &mut Vec<u8>, scheme: Scheme, version: u64, words: Vec<u32>)
+    requires empty { bytes.old.items ≡ [] }
+    requires room { 14 + 4 * length words.items ≤ vec_capacity bytes.old }
+    requires size { 9 + 4 * length words.items ≤ payload_limit }
+    ensures bytes { bytes.new.items ≡
+        encoding (Frame.Query (scheme_byte scheme) version words.items) }
+    ensures frame { IsFrame (Frame.Query (scheme_byte scheme) version words.items) }
+{
     let frame = Frame::Query {
         scheme: scheme.byte(),
-        version: asked.version,
+        version,
         words: Words::new(words),
     };
     // There is room for the frame: no refusal is left.
-    let _ = write_frame(&frame, &mut bytes);
-    bytes
+    let _ = write_frame(&frame, bytes);
 }

@@ -2,20 +2,20 @@
 
 ghost use Rattle.std.specs.Prelude.{◌≡◌, ◌≤◌, ◌<◌, ◌^◌, [], List, ℕ, true, None, Some, IfOk, IfErr};
 ghost use Rattle.std.specs.Prelude.{MatchOption, MatchResult, length, max};
-ghost use Rattle.frame_codec.specs.Frames.{encoding};
+ghost use Rattle.frame_codec.specs.Frames.{IsFrame, encoding};
 ghost use Rattle.frame_codec.specs.declared.frame.Frame.{Frame};
 ghost use Rattle.pir_schemes.specs.Schemes.{scheme_byte};
 ghost use Rattle.pir_schemes.specs.Plans.{client_profile};
 ghost use Rattle.pir_schemes.specs.Retrievals.{query_words};
 ghost use Rattle.client_core.specs.declared.state.ServerInfo.{ServerInfo};
-ghost use Rattle.client_core.specs.States.{fresh, fresh_in, scheme_held, shape_known};
+ghost use Rattle.client_core.specs.States.{IsKnown, fresh, fresh_in, scheme_held, shape_known};
 ghost use Rattle.client_core.specs.Calls.{ClientCall, Accepts, Refuses};
 ghost use Rattle.client_core.specs.Feeding.{Client, FeedsClient};
 ghost use Rattle.client_core.specs.Resuming.{IsDropped, IsResumed, saved_of};
 
 use crate::calls::{
-    AskedRecord, append_bytes, ask_buffers, base_of, call_since, edit_bytes, encoded, frame_since,
-    may_ask, may_change, may_hello, query_bytes, scheme_of, spend_number,
+    AskedRecord, append_bytes, ask_buffers, base_of, begin_sync, edit_bytes, encoded, hello_bytes,
+    may_ask, may_change, may_hello, query_bytes, scheme_of, spend_number, sync_bytes,
 };
 use crate::parts::Parts;
 use crate::preparing::{next_masks, serve_next};
@@ -23,7 +23,7 @@ use crate::resuming::{SavedClient, may_hold};
 use crate::state::{Call, CallFault, ClientFault, ClientState, Event, Hint, ServerInfo};
 use crate::taking::take_replies;
 use digit_pack::is_wide;
-use frame_codec::{Bytes32, Frame, Reader};
+use frame_codec::{Frame, Reader};
 use matrix_u32::Kernel;
 use pir_schemes::{QueryMasks, Scheme, SecretSeed, client_profile};
 use std::alloc::{AllocError, Global};
@@ -233,11 +233,7 @@ impl<K: Kernel> ClientCore<K> {
         ensures reader { self.new.reader ≡ self.old.reader }
     {
         may_hello(&self.state)?;
-        let frame = Frame::Hello {
-            profile: self.state.profile,
-            key: Bytes32::copied(&key),
-        };
-        let bytes = encoded(self.alloc, &frame)?;
+        let bytes = hello_bytes(self.alloc, self.state.profile, &key)?;
         self.state.call = Call::Hello;
         Ok(bytes)
     }
@@ -260,26 +256,9 @@ impl<K: Kernel> ClientCore<K> {
         ensures reader { self.new.reader ≡ self.old.reader }
     {
         let known = may_change(&self.state)?;
-        if let Some(since) = base_of(scheme, &self.state.hint) {
-            let wide = is_wide(self.state.profile);
-            let bytes = encoded(self.alloc, &frame_since(wide, since))?;
-            self.state.call = call_since(wide, since);
-            return Ok(bytes);
-        }
-        let version = known.version;
-        let frame = Frame::HintAsk {
-            scheme: scheme.byte(),
-            version,
-            part: 0,
-        };
-        let bytes = encoded(self.alloc, &frame)?;
-        self.state.hint = None;
-        self.state.parts = Parts::none(self.alloc);
-        self.state.call = Call::Sync {
-            scheme,
-            version,
-            part: 0,
-        };
+        let since = base_of(scheme, &self.state.hint);
+        let bytes = sync_bytes(self.alloc, &self.state, scheme, since, known.version)?;
+        begin_sync(self.alloc, &mut self.state, scheme, since, known.version);
         Ok(bytes)
     }
 
@@ -333,22 +312,42 @@ impl<K: Kernel> ClientCore<K> {
         let known = may_ask(&self.state, index)?;
         // Spent before memory is asked for, so that no number serves two queries.
         let number = spend_number(&mut self.state);
-        let scheme = scheme_of(&self.state.hint);
-        let room = ask_buffers(self.alloc, scheme, &known)?;
         let version = known.version;
         let asked = AskedRecord {
             index,
             version,
             number,
         };
-        let seed = &self.state.seed;
-        let bytes = query_bytes(self.kernel, room, &self.masks, scheme, &known, seed, asked);
+        let bytes = self.query(&known, asked)?;
         self.state.call = Call::Ask {
             index,
             version,
             number,
         };
         Ok(bytes)
+    }
+
+    // The bytes of the query of a retrieval, in the scheme of the hint held.
+    fn query(&self, known: &ServerInfo, asked: AskedRecord) -> Result<Vec<u8>, CallFault>
+        requires known { IsKnown known.now }
+        requires number { asked.number < 2 ^ 62 }
+        requires record { asked.index < known.now.count }
+        ensures bytes { IfOk result (λ v. v.items ≡ encoding
+            (Frame.Query (scheme_byte (scheme_held self.now.state.hint)) asked.version
+            (query_words (scheme_held self.now.state.hint) (shape_known known.now)
+            known.now.plan.dimension known.now.plan.seed self.now.state.seed asked.number
+            asked.index))) }
+        ensures frame { IfOk result (λ _. IsFrame
+            (Frame.Query (scheme_byte (scheme_held self.now.state.hint)) asked.version
+            (query_words (scheme_held self.now.state.hint) (shape_known known.now)
+            known.now.plan.dimension known.now.plan.seed self.now.state.seed asked.number
+            asked.index))) }
+        ensures memory { IfErr result (λ e. e ≡ CallFault.Memory) }
+    {
+        let scheme = scheme_of(&self.state.hint);
+        let room = ask_buffers(self.alloc, scheme, known)?;
+        let seed = &self.state.seed;
+        Ok(query_bytes(self.kernel, room, &self.masks, scheme, known, seed, asked))
     }
 
     /// Gives the server these bytes, at most 65,535, for record `index` of the next version. It
