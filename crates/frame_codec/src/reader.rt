@@ -294,9 +294,32 @@ fn see_frame(
         return Ok(None);
     }
     // A copy: the reader's own bytes stay as they are.
-    let mut bytes = Vec::with_capacity(alloc, enough)?;
-    bytes.extend_from_slice(pending)?;
-    match finish(alloc, wide, &mut bytes, piece)? {
+    let Ok(mut bytes) = copy_bytes(alloc, pending, enough) else {
+        return Err(ReadFault::Memory);
+    };
+    finish_frame(alloc, wide, &mut bytes, piece)
+}
+
+/// Copies bytes to where there is room for so many in all.
+fn copy_bytes(alloc: Global, bytes: &[u8], room: usize) -> Result<Vec<u8>, AllocError>
+    ensures { IfOk result (λ copy. copy.items ≡ bytes.now) }
+{
+    let mut copy = Vec::with_capacity(alloc, room)?;
+    copy.extend_from_slice(bytes)?;
+    Ok(copy)
+}
+
+/// Gives an unfinished frame what it lacks, and returns it if it is whole then.
+fn finish_frame(
+    alloc: Global,
+    wide: bool,
+    pending: &mut Vec<u8>,
+    piece: &[u8],
+) -> Result<Option<Frame>, ReadFault>
+    requires { IsPartial true pending.old.items }
+    ensures { SeesFrame wide (Some pending.old.items) piece.now result }
+{
+    match finish(alloc, wide, pending, piece)? {
         None => Ok(None),
         Some((frame, _)) => Ok(Some(frame)),
     }
